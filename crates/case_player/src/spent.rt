@@ -8,7 +8,7 @@ use crate::spelling::{bytes, digits};
 use crate::tally::{Tally, is_skipped};
 use crate::worlds::begin;
 use anyhow::{Context, Result, bail, ensure};
-use endpoint_link::{Mode, Outbox, Reading, Side, frame_at};
+use link_frames::{Mode, Outbox, Reading, Side, frame_at};
 use vfs_world::{World, WorldFault};
 
 /// Plays the rows of a text.

@@ -8,11 +8,11 @@ ghost use Rattle.io_messages.specs.Writing.{HasTexts};
 mod rows;
 
 use crate::client::rows::{EACH, EXCHANGE, FILE, TAKEN};
-use endpoint_link::{FrameKind, Outbox, Reading, Side, frame_at};
 use fidl_names::Method;
 use fidl_wire::Ordinals;
 use io_client::{Client, Taken};
 use io_messages::{Reply, Request, is_one_way};
+use link_frames::{FrameKind, Outbox, Reading, Side, frame_at};
 use std::alloc::Global;
 use std::test::Fail;
 use test_rows::{Row, Table, all_hold};

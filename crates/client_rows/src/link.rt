@@ -5,10 +5,8 @@ mod rows;
 mod streams;
 
 use crate::link::rows::ROWS;
-use endpoint_link::{
-    AdmitFault, Endpoints, FrameKind, FrameReason, FrameRoom, MAX_FRAME_LEN, Outbox, Reading,
-    Refusal, Side, frame_at, spelled_len, write_frame,
-};
+use link_admission::{AdmitFault, Endpoints};
+use link_frames::{FrameKind, FrameReason, FrameRoom, MAX_FRAME_LEN, Outbox, Reading, Refusal, Side, frame_at, spelled_len, write_frame};
 use std::alloc::{AllocError, Global};
 use std::test::Fail;
 use test_rows::{Row, Table, all_hold};

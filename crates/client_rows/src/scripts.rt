@@ -2,9 +2,9 @@
 mod rows;
 
 use crate::scripts::rows::SCRIPTS;
-use endpoint_link::Mode;
 use fidl_names::MAX_TEXT;
 use fidl_wire::Ordinals;
+use link_frames::Mode;
 use std::alloc::Global;
 use std::test::Fail;
 use test_rows::{Row, Table, all_hold};

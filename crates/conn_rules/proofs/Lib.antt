@@ -3,3 +3,4 @@ pub mod KeptRows
 pub mod Narrow
 pub mod Taking
 pub mod TokenHandles
+mod Lengths

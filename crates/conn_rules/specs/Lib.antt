@@ -13,3 +13,4 @@ pub mod Acts
 pub mod Served
 pub mod Laws
 pub mod Shared
+pub mod Onward

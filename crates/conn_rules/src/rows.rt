@@ -27,8 +27,7 @@ use crate::node_attributes::attributes;
 use crate::served::Served;
 use fidl_names::{Method, Status};
 use fidl_wire::{Ordinals, Out};
-use io_messages::{Failing, Protocol, Reply, Request, failing_of};
-use message_writer::{write_bytes, write_reply};
+use io_messages::{Failing, Protocol, Reply, Request, failing_of, write_bytes, write_reply};
 use node_graph::Graph;
 
 /// Replies, into an empty output.

@@ -17,8 +17,7 @@ use conn_rules::{Birth, Changes, fail, reply};
 use dirents::{Packed, Place, measure, pack};
 use fidl_names::{MAX_CHUNK, Method, Status};
 use fidl_wire::{Ordinals, Out};
-use io_messages::Reply;
-use message_writer::begin_listing;
+use io_messages::{Reply, begin_listing};
 use node_graph::Graph;
 
 /// Lists the directory from a place on, in at most so many bytes. The place goes behind what was

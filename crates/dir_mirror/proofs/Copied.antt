@@ -8,7 +8,7 @@ use Rattle.std.specs.List.{list_any}
 use Rattle.std.specs.List.Sorted.{IsStrictlySortedBy}
 use Rattle.std.proofs.lemmas.List.Folds.{list_any-append}
 use Rattle.std.proofs.lemmas.List.Elements.{filter-append}
-use Rattle.endpoint_link.specs.Frames.{Frame}
+use Rattle.link_frames.specs.Frames.{Frame}
 use Rattle.watch_events.specs.Events.{Event}
 use Rattle.watch_events.specs.NamesNow.{is_named_now}
 use Rattle.dir_mirror.specs.Copies.{AreGood, AreTold, Copy, Mirrors, is_close_on, is_deletion, is_message_on, messages_on}

@@ -1,16 +1,16 @@
 ghost use Rattle.std.specs.Prelude.{◌≡◌, ◌++◌, ◌∷◌, [], List, IfSome, IsNone, OnOk, OnErr, Err};
 ghost use Rattle.std.specs.List.{list_any};
 ghost use Rattle.std.specs.Iterator.{YieldsFirstBy, item_count};
-ghost use Rattle.endpoint_link.specs.Frames.{Frame};
-ghost use Rattle.endpoint_link.specs.Views.{frame_of};
+ghost use Rattle.link_frames.specs.Frames.{Frame};
+ghost use Rattle.link_frames.specs.Views.{frame_of};
 ghost use Rattle.watch_events.specs.Events.{Event};
 ghost use Rattle.dir_mirror.specs.Copies.{AreGood, HasBadEvents, HasGoodEvents, Mirrors, is_deletion};
 ghost use Rattle.dir_mirror.specs.Steps.{TakesEvents};
 ghost use Rattle.dir_mirror.specs.declared.mirror.MirrorFault.TheVariants as fault;
 
 use crate::seats::{Seats, mark_all, seat_all, sweep_all};
-use endpoint_link::{FrameKind, FrameView};
 use fidl_names::NoMemory;
+use link_frames::{FrameKind, FrameView};
 use std::alloc::Global;
 use std::collections::BTreeMap;
 use std::collections::btree_map::Iter;

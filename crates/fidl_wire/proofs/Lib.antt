@@ -2,3 +2,4 @@ pub mod ReadHeaders
 pub mod Padded
 pub mod Rows
 pub mod Sizes
+pub mod Members

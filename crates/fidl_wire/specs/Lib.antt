@@ -10,3 +10,4 @@ pub mod Faults
 pub mod Epitaphs
 pub mod Grammar
 pub mod Spelling
+pub mod Within

@@ -2,6 +2,9 @@
 //! ordinals of names. `body_reader` reads the body of a message.
 #![tactic(auto)]
 
+mod blanks;
+mod cursor;
+mod envelopes;
 mod epitaphs;
 mod faults;
 mod hashing;
@@ -11,7 +14,10 @@ mod ordinals;
 mod output;
 mod padding;
 mod reading;
+mod tables;
+mod texts;
 
+pub use cursor::Body;
 pub use epitaphs::{EPITAPH_ORDINAL, epitaph, read_epitaph};
 pub use faults::{WireFault, WireWhat};
 pub use fidl_names::{Handle, Method, NoMemory, Status};

@@ -1,3 +1,5 @@
 mod Coming
 mod Rows
 mod Serving
+mod Acts
+pub mod Echoes

@@ -3,9 +3,13 @@
 #![tactic(auto)]
 
 mod connection;
+mod echoing;
 mod filling;
 mod reading;
+mod reference;
 mod seeking;
 mod writing;
 
 pub use connection::FileConn;
+pub use echoing::echo;
+pub use reference::NodeConn;

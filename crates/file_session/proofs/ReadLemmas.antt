@@ -2,8 +2,8 @@
 use Rattle.std.proofs.Common.{◌≡◌, ◌≢◌, ℕ, Bool, true, List, [], ◌++◌, Option, None, sym, ap, ◌∙◌, subst, append-nil}
 use Rattle.fidl_wire.specs.Written.{Written}
 use Rattle.io_messages.specs.Asked as asks
-use Rattle.endpoint_link.specs.Frames.{frame_with, spelling, spellings}
-use Rattle.endpoint_link.specs.declared.kinds.FrameKind.TheVariants as kind
+use Rattle.link_frames.specs.Frames.{frame_with, spelling, spellings}
+use Rattle.link_frames.specs.declared.kinds.FrameKind.TheVariants as kind
 use Rattle.node_graph.specs.Graph.{Kept, StandsFor}
 use Rattle.node_graph.specs.Tree.{Tree}
 use Rattle.conn_rules.specs.declared.served.Served.{Served}

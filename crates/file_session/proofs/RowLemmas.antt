@@ -8,8 +8,8 @@ use Rattle.fidl_wire.specs.Written.{Written}
 use Rattle.io_messages.specs.Replies.{Answered, fails, payload}
 use Rattle.io_messages.specs.ReplyWriting.{reply_bytes, reply_handles}
 use Rattle.io_rights.specs.Operations.{is_within}
-use Rattle.endpoint_link.specs.Frames.{frame_with}
-use Rattle.endpoint_link.specs.declared.kinds.FrameKind.TheVariants as kind
+use Rattle.link_frames.specs.Frames.{frame_with}
+use Rattle.link_frames.specs.declared.kinds.FrameKind.TheVariants as kind
 use Rattle.node_graph.specs.Graph.{Kept}
 use Rattle.conn_rules.specs.declared.served.Served.{Served}
 use Rattle.conn_rules.specs.Acts.{act_of}

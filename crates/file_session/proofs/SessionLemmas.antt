@@ -1,12 +1,12 @@
 -- The session of one file, over frames one after another.
 use Rattle.std.proofs.Common.{◌≡◌, ℕ, Bool, true, List, [], ◌∷◌, ◌++◌, Some, None, refl, sym, ap, ◌∙◌, subst, append_assoc, append-nil, ◌⊎◌, inl, inr}
 use Rattle.std.proofs.lemmas.List.Concat.{flat_map-append}
-use Rattle.endpoint_link.specs.Frames.{Frame, spelling, spellings}
-use Rattle.endpoint_link.specs.declared.kinds.FrameKind.{FrameKind}
-use Rattle.endpoint_link.specs.declared.kinds.FrameKind.TheVariants as kind
-use Rattle.endpoint_link.specs.Admission.{admission}
-use Rattle.endpoint_link.specs.declared.kinds.Refusal.{Refusal}
-use Rattle.endpoint_link.specs.Refusals.{refused_frame}
+use Rattle.link_frames.specs.Frames.{Frame, spelling, spellings}
+use Rattle.link_frames.specs.declared.kinds.FrameKind.{FrameKind}
+use Rattle.link_frames.specs.declared.kinds.FrameKind.TheVariants as kind
+use Rattle.link_admission.specs.Admission.{admission}
+use Rattle.link_frames.specs.declared.kinds.Refusal.{Refusal}
+use Rattle.link_frames.specs.Refusals.{refused_frame}
 use Rattle.conn_rules.specs.Births.{Position, fresh}
 use Rattle.link_session.specs.Serving.{IsGrowing, HeardOne, HeardEnd}
 use Rattle.link_session.specs.Session.{Course}

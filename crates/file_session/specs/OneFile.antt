@@ -22,13 +22,13 @@ use Rattle.conn_rules.specs.Acts.{act_of}
 use Rattle.conn_rules.specs.Answers.{Act}
 use Rattle.conn_rules.specs.Births.{Birth, Position, fresh}
 use Rattle.conn_rules.specs.Contexts.{Context, context_with}
-use Rattle.endpoint_link.specs.Frames.{Frame, spellings}
-use Rattle.endpoint_link.specs.Admission.{LookUps, admission}
-use Rattle.endpoint_link.specs.declared.kinds.FrameKind.{FrameKind}
-use Rattle.endpoint_link.specs.declared.kinds.FrameKind.TheVariants as kind
-use Rattle.endpoint_link.specs.declared.kinds.Refusal.{Refusal}
-use Rattle.endpoint_link.specs.Refusals.{refused_frame}
-use Rattle.endpoint_link.specs.declared.kinds.Standing.TheVariants as standing
+use Rattle.link_frames.specs.Frames.{Frame, spellings}
+use Rattle.link_admission.specs.Admission.{LookUps, admission}
+use Rattle.link_frames.specs.declared.kinds.FrameKind.{FrameKind}
+use Rattle.link_frames.specs.declared.kinds.FrameKind.TheVariants as kind
+use Rattle.link_frames.specs.declared.kinds.Refusal.{Refusal}
+use Rattle.link_frames.specs.Refusals.{refused_frame}
+use Rattle.link_admission.specs.declared.kinds.Standing.TheVariants as standing
 use Rattle.vfs_journal.specs.Outcomes.{Asker, frames_of, ending}
 use Rattle.link_session.specs.Session.{Course}
 

@@ -5,9 +5,9 @@ use Rattle.fidl_names.specs.declared.methods.Method.TheVariants as method
 use Rattle.fidl_names.specs.declared.statuses.Status.TheVariants as status
 use Rattle.fidl_names.specs.StatusNumber.{number_of}
 use Rattle.fidl_wire.specs.Epitaphs.{epitaph_bytes}
-use Rattle.endpoint_link.specs.Frames.{Frame}
-use Rattle.endpoint_link.specs.declared.kinds.FrameKind.{FrameKind}
-use Rattle.endpoint_link.specs.declared.kinds.FrameKind.TheVariants as kind
+use Rattle.link_frames.specs.Frames.{Frame}
+use Rattle.link_frames.specs.declared.kinds.FrameKind.{FrameKind}
+use Rattle.link_frames.specs.declared.kinds.FrameKind.TheVariants as kind
 use Rattle.io_messages.specs.Replies.{fails, payload}
 use Rattle.io_messages.specs.ReplyWriting.{reply_bytes}
 use Rattle.conn_rules.specs.FileRows.{is_too_much, part_from}

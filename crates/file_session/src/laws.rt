@@ -1,7 +1,7 @@
 // A law of the session of one file, in its client's words.
 
 ghost use Rattle.std.specs.Prelude.{◌≡◌, ℕ, List, ◌++◌};
-ghost use Rattle.endpoint_link.specs.Frames.{Frame};
+ghost use Rattle.link_frames.specs.Frames.{Frame};
 ghost use Rattle.file_session.specs.OneFile.{answers, after, at_start};
 ghost use Rattle.file_session.specs.Seen.{reads_of, epitaph_of, messages_of, replies, position_after_all};
 

@@ -4,8 +4,7 @@ ghost use Rattle.fidl_wire.specs.Reading.{body_of};
 ghost use Rattle.file_session.specs.OneFile.{meaning_of};
 ghost use Rattle.file_session.specs.Meanings.{HasTxid, seen};
 
-use body_reader::Body;
-use fidl_wire::{Header, Method, Ordinals, Status, WireFault};
+use fidl_wire::{Body, Header, Method, Ordinals, Status, WireFault};
 
 /// What a message on the file's endpoint is.
 #[derive(Clone, Copy)]

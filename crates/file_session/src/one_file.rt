@@ -1,7 +1,7 @@
 ghost use Rattle.std.specs.Prelude.{◌≡◌, ◌≤◌, ◌<◌, ◌+◌, ◌++◌, ℕ, List, [], ◌∷◌, length, true, IfOk};
 ghost use Rattle.conn_rules.specs.Births.{fresh};
-ghost use Rattle.endpoint_link.specs.Frames.{spellings};
-ghost use Rattle.endpoint_link.specs.Views.{frame_of};
+ghost use Rattle.link_frames.specs.Frames.{spellings};
+ghost use Rattle.link_frames.specs.Views.{frame_of};
 ghost use Rattle.vfs_journal.specs.Outcomes.{ending};
 ghost use Rattle.file_session.specs.Bound.{IsBoundTo};
 ghost use Rattle.file_session.specs.OneFile.{Hears, outcome, answered, read_outcome, meaning_of as told};
@@ -9,11 +9,12 @@ ghost use Rattle.file_session.specs.OneFile.{Hears, outcome, answered, read_outc
 use crate::binding::bind;
 use crate::messages::{Meaning, meaning_of};
 use conn_rules::{Room, Served};
-use endpoint_link::{FIXED_LEN, FrameKind, FrameRoom, FrameView, LookUp, Standing, first_refusal};
 use fidl_names::{MAX_BYTES, MAX_FILE};
 use fidl_wire::{NoMemory, Ordinals, Out, Status as Answer, epitaph};
 use file_conn::FileConn;
 use io_messages::Request;
+use link_admission::{LookUp, Standing, first_refusal};
+use link_frames::{FIXED_LEN, FrameKind, FrameRoom, FrameView};
 use node_graph::Graph;
 use std::alloc::Global;
 

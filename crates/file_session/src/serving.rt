@@ -1,6 +1,6 @@
 ghost use Rattle.std.specs.Prelude.{◌≡◌, ◌≤◌, length, true, [], ◌∷◌, IfOk};
 ghost use Rattle.conn_rules.specs.Births.{fresh};
-ghost use Rattle.endpoint_link.specs.declared.kinds.Side.TheVariants as side;
+ghost use Rattle.link_frames.specs.declared.kinds.Side.TheVariants as side;
 ghost use Rattle.run_status.specs.Causes.{AfterNames};
 ghost use Rattle.run_status.specs.Outside.{files_told, streams_told};
 ghost use Rattle.run_status.specs.Reads.{ReadsOnly};
@@ -10,10 +10,10 @@ ghost use Rattle.file_session.specs.Bound.{IsBoundTo};
 ghost use Rattle.file_session.specs.OneFile.{file_course, IsBehind};
 
 use crate::one_file::{Connection, MOST_ANSWER};
-use endpoint_link::{FrameRoom, FrameView, Side};
 use fidl_names::{MAX_FILE, MAX_PIECE, NoMemory};
 use fidl_wire::Ordinals;
 use host_io::{Files, Sink, Source};
+use link_frames::{FrameRoom, FrameView, Side};
 use link_session::{Input, Session, run};
 use run_status::{Status, ordinals, read_file};
 use std::alloc::Global;
@@ -79,7 +79,7 @@ impl FileSession {
 
 impl Session for FileSession {
     ghost use Rattle.std.specs.Prelude.{◌≡◌, ℕ, List};
-    ghost use Rattle.endpoint_link.specs.declared.kinds.Side.TheVariants as side;
+    ghost use Rattle.link_frames.specs.declared.kinds.Side.TheVariants as side;
     ghost use Rattle.file_session.specs.declared.serving.TheConstants.{ROOM};
     ghost use Rattle.file_session.specs.Bound.{IsBoundTo};
     ghost use Rattle.file_session.specs.OneFile.{file_course, IsBehind};

@@ -11,7 +11,7 @@ use Rattle.std.proofs.lemmas.List.{length-append}
 use Rattle.std.proofs.lemmas.List.Elements.{All-nil, All-cons, All-contains_itself, All-head, All-tail, All-map, All-weaker, filter-append}
 use Rattle.std.proofs.lemmas.List.Sums.{length-filter}
 use Rattle.fidl_names.specs.HandleNumber.{is_client}
-use Rattle.endpoint_link.specs.Numbering.{among}
+use Rattle.link_admission.specs.Numbering.{among}
 use Rattle.session_start.proofs.Accepted.{few_items}
 use Rattle.vfs_journal.specs.Entries.{Journal, Sent, serves}
 use Rattle.vfs_journal.specs.History.{all_sent, births, is_dead, living}

@@ -1,8 +1,8 @@
 -- What a serving writes, changes and tells.
 use Rattle.std.proofs.Common.{◌≡◌, ℕ, List, [], ◌∷◌, map, Ok, Err, refl, All, lit<, arith}
 use Rattle.std.proofs.lemmas.List.Elements.{All-nil, All-cons}
-use Rattle.endpoint_link.specs.declared.kinds.Side.TheVariants.{Any}
-use Rattle.endpoint_link.specs.Frames.{IsFrame}
+use Rattle.link_frames.specs.declared.kinds.Side.TheVariants.{Any}
+use Rattle.link_frames.specs.Frames.{IsFrame}
 use Rattle.fidl_names.specs.HandleNumber.{handle_with}
 use Rattle.fidl_names.specs.declared.methods.Method.TheVariants as method
 use Rattle.io_messages.specs.Asked.{Asked}

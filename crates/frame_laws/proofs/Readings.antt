@@ -1,10 +1,10 @@
 -- That frames which are written are read back.
 use Rattle.std.proofs.Common.{◌≡◌, ℕ, List, [], ◌∷◌, ◌++◌, All, sym, ap, subst, ◌∙◌, arith, append-nil, append_assoc, inl}
 use Rattle.std.proofs.lemmas.List.{append_cancel_left}
-use Rattle.endpoint_link.specs.Frames.{Frame, Frames, IsFrame, spellings}
-use Rattle.endpoint_link.specs.declared.kinds.Side.TheVariants.{Any}
-use Rattle.endpoint_link.proofs.Runs.{spellings-append}
-use Rattle.endpoint_link.proofs.Streams.{frames_stay, not_both, one_list}
+use Rattle.link_frames.specs.Frames.{Frame, Frames, IsFrame, spellings}
+use Rattle.link_frames.specs.declared.kinds.Side.TheVariants.{Any}
+use Rattle.link_frames.proofs.Runs.{spellings-append}
+use Rattle.link_frames.proofs.Streams.{frames_stay, not_both, one_list}
 use Rattle.vfs_journal.specs.Entries.{Journal}
 use Rattle.vfs_journal.specs.Lawful.{Lawful}
 use Rattle.vfs_journal.specs.Output.{frames_behind, frames_of_event}

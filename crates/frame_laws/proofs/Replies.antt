@@ -4,11 +4,11 @@ use Rattle.std.specs.Prelude.{IsTrue}
 use Rattle.std.specs.Int.{w32, cast_unsigned}
 use Rattle.std.proofs.lemmas.List.{length-append, length-map}
 use Rattle.std.proofs.lemmas.List.Elements.{All-nil, All-cons, All-map}
-use Rattle.endpoint_link.specs.declared.kinds.FrameKind.TheVariants as kind
-use Rattle.endpoint_link.specs.declared.kinds.Refusal.{Refusal}
-use Rattle.endpoint_link.specs.declared.kinds.Side.TheVariants.{Any}
-use Rattle.endpoint_link.specs.Frames.{IsFrame, frame_with}
-use Rattle.endpoint_link.specs.Refusals.{status_of}
+use Rattle.link_frames.specs.declared.kinds.FrameKind.TheVariants as kind
+use Rattle.link_frames.specs.declared.kinds.Refusal.{Refusal}
+use Rattle.link_frames.specs.declared.kinds.Side.TheVariants.{Any}
+use Rattle.link_frames.specs.Frames.{IsFrame, frame_with}
+use Rattle.link_frames.specs.Refusals.{status_of}
 use Rattle.fidl_names.specs.HandleNumber.{number_of_handle}
 use Rattle.fidl_names.specs.Numbers.{AreBytes, number_bytes}
 use Rattle.fidl_names.specs.StatusNumber.{number_of}

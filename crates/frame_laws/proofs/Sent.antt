@@ -9,7 +9,7 @@ use Rattle.io_messages.specs.Asked as asks
 use Rattle.io_messages.specs.Requests.{items_of, request_cells}
 use Rattle.io_messages.specs.Writing.{plain_header, request_body}
 use Rattle.path_walk.specs.Paths.{IsPath, text_of}
-use Rattle.remote_forward.specs.Onward.{onward_bytes}
+use Rattle.conn_rules.specs.Onward.{onward_bytes}
 use Rattle.vfs_journal.specs.Entries.{Journal, Sent, hang_up, message, sends, serves}
 use Rattle.vfs_journal.specs.History.{History, all_sent}
 use Rattle.vfs_journal.specs.Lawful.{Lawful}

@@ -1,9 +1,9 @@
 -- What a session writes is frames: who reads its output has them again, each as it was written.
 use Rattle.std.specs.Prelude.{◌≡◌, ℕ, All, List, [], ◌++◌}
-use Rattle.endpoint_link.specs.Frames.{Bad, Frame, Frames, IsFrame}
-use Rattle.endpoint_link.specs.declared.kinds.FrameReason.{FrameReason}
-use Rattle.endpoint_link.specs.declared.kinds.Mode.{Mode}
-use Rattle.endpoint_link.specs.declared.kinds.Side.TheVariants.{Any, ToServers}
+use Rattle.link_frames.specs.Frames.{Bad, Frame, Frames, IsFrame}
+use Rattle.link_frames.specs.declared.kinds.FrameReason.{FrameReason}
+use Rattle.link_frames.specs.declared.kinds.Mode.{Mode}
+use Rattle.link_frames.specs.declared.kinds.Side.TheVariants.{Any, ToServers}
 use Rattle.session_start.specs.Accepted.{AreAccepted, HasFilesOfBytes}
 use Rattle.session_start.specs.Items.{Lists}
 use Rattle.vfs_journal.specs.Entries.{Journal}

@@ -11,9 +11,9 @@ use Rattle.fidl_wire.specs.Epitaphs.{IsEpitaph, is_epitaph}
 use Rattle.fidl_wire.specs.declared.faults.WireWhat.TheVariants.{Ordinal}
 use Rattle.fidl_wire.specs.Headers.{fault, header_of}
 use Rattle.fidl_wire.specs.Names.{event_ordinal, method_ordinal}
-use Rattle.endpoint_link.specs.declared.kinds.FrameKind.{FrameKind}
-use Rattle.endpoint_link.specs.declared.kinds.FrameKind.TheVariants as kind
-use Rattle.endpoint_link.specs.Frames.{Frame}
+use Rattle.link_frames.specs.declared.kinds.FrameKind.{FrameKind}
+use Rattle.link_frames.specs.declared.kinds.FrameKind.TheVariants as kind
+use Rattle.link_frames.specs.Frames.{Frame}
 use Rattle.io_messages.specs.Replies.{Answered}
 use Rattle.io_replies.specs.Reading.{reply_of}
 use Rattle.io_client.specs.Calls.{Calls, answered_at, call_at, call_cmp, is_watched}

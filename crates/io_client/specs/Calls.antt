@@ -8,8 +8,8 @@ use Rattle.fidl_names.specs.declared.limits.TheConstants as limit
 use Rattle.fidl_names.specs.declared.methods.Method.{Method}
 use Rattle.fidl_names.specs.First.{cause_if, first_of}
 use Rattle.fidl_names.specs.HandleNumber.{number_of_handle}
-use Rattle.endpoint_link.specs.declared.kinds.FrameKind.TheVariants as kind
-use Rattle.endpoint_link.specs.Frames.{Frame, frame_with}
+use Rattle.link_frames.specs.declared.kinds.FrameKind.TheVariants as kind
+use Rattle.link_frames.specs.Frames.{Frame, frame_with}
 use Rattle.io_messages.specs.Asked.{Asked, method_of}
 use Rattle.io_messages.specs.Asked as asks
 use Rattle.io_messages.specs.Shapes.{is_one_way}

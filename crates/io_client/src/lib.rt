@@ -30,7 +30,7 @@
 //! client.send(&ordinals, 1, 3, watch, &mut outbox)?;
 //! ```
 //!
-//! Two calls wait now. `endpoint_link::frame_at` reads each frame that comes back where it stands, and
+//! Two calls wait now. `link_frames::frame_at` reads each frame that comes back where it stands, and
 //! `client.take(&ordinals, frame)` answers what it is:
 //!
 //! | On | What is taken |

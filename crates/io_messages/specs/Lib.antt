@@ -8,3 +8,4 @@ pub mod Requests
 pub mod Replies
 pub mod Writing
 pub mod ReplyWriting
+pub mod Fields

@@ -4,9 +4,12 @@
 #![tactic(auto)]
 
 mod failing;
+mod fields;
 mod kinds;
 mod protocols;
 mod replies;
+mod reply_writer;
+mod request_writer;
 mod requests;
 
 pub use failing::{Failing, failing_of};
@@ -16,4 +19,6 @@ pub use replies::{
     Attributes, ERROR, FRAMEWORK_ENVELOPE, FRAMEWORK_ORDINAL, ORDINAL_PLACE, Reply, SUCCESS, Shape,
     is_one_way, shape_of,
 };
+pub use reply_writer::{begin_listing, write_bytes, write_event, write_reply};
+pub use request_writer::write_request;
 pub use requests::{Request, RequestFault, TooLong};

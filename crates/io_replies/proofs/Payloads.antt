@@ -8,7 +8,7 @@ use Rattle.fidl_names.specs.declared.statuses.Status.{Status}
 use Rattle.fidl_wire.specs.declared.reading.Branch.{Branch}
 use Rattle.fidl_wire.specs.declared.faults.WireFault.{WireFault}
 use Rattle.fidl_wire.specs.Cursor.{Cursor, outside_of, start}
-use Rattle.body_reader.specs.Within.{IsPart}
+use Rattle.fidl_wire.specs.Within.{IsPart}
 use Rattle.fidl_wire.specs.declared.faults.WireWhat.TheVariants.{Value}
 use Rattle.fidl_wire.specs.Headers.{fault}
 use Rattle.wire_laws.specs.Laws.{ReadsWhatIsSpelled, SpelledWhereRead}

@@ -15,8 +15,8 @@ use Rattle.io_messages.specs.Kinds.{announced_as, kind_with}
 use Rattle.io_replies.specs.Reading.{ReadsEvent}
 use Rattle.io_messages.specs.ReplyWriting.{event_bytes}
 use Rattle.fidl_wire.proofs.Rows.{small_rest}
-use Rattle.message_writer.proofs.Lengths.{length-header, length-count, padded_none}
-use Rattle.message_writer.proofs.Unions.{cat, object_length}
+use Rattle.io_messages.proofs.Lengths.{length-header, length-count, padded_none}
+use Rattle.io_messages.proofs.Unions.{cat, object_length}
 
 table_small : length (object_bytes (join (table_part []) nothing)) < 256 ^ 4
 table_small =

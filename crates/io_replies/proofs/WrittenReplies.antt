@@ -28,8 +28,8 @@ use Rattle.io_replies.specs.Laws.{IsLong, NumbersFit}
 use Rattle.io_messages.specs.Shapes.{shape_of}
 use Rattle.io_messages.specs.Writing.{plain_header}
 use Rattle.fidl_wire.proofs.Rows.{small_ordinal}
-use Rattle.message_writer.proofs.Lengths.{length-header, length-number, padded-least, no_handles}
-use Rattle.message_writer.proofs.Unions.{cat, list_length, object_length, padded_few, tables_most}
+use Rattle.io_messages.proofs.Lengths.{length-header, length-number, padded-least, no_handles}
+use Rattle.io_messages.proofs.Unions.{cat, list_length, object_length, padded_few, tables_most}
 
 not_zero : (t : ℕ) → 0 < t → nat_eq t 0 ≡ false
 not_zero t h = grind (arith, nat_tests)

@@ -4,9 +4,8 @@ ghost use Rattle.fidl_wire.specs.Reading.{cells_at};
 ghost use Rattle.io_messages.specs.Replies.{attribute_cells};
 ghost use Rattle.io_replies.specs.Reading.{status_with, failed, answer_told, reply_fields, error_in, attributes_from};
 
-use body_reader::Body;
 use fidl_names::{Handle, Method, Status};
-use fidl_wire::{WireFault, WireWhat};
+use fidl_wire::{Body, WireFault, WireWhat};
 use io_messages::{Attributes, ERROR, Reply, SUCCESS, Shape};
 
 /// Where the union of a result, or a reply's status, stands.

@@ -6,12 +6,9 @@ ghost use Rattle.io_messages.specs.Replies.{Answered, answered, method_with, an_
 ghost use Rattle.io_replies.specs.Reading.{IsPayloadOf, ReadsReply, ReadsEvent, is_framework_error, reply_of, reply_told, event_of, kind_in};
 
 use crate::reply_fields::read_fields;
-use body_reader::Body;
 use fidl_names::{Handle, Method};
-use fidl_wire::{Header, Ordinals, WireFault, WireWhat};
-use io_messages::{
-    FRAMEWORK_ENVELOPE, FRAMEWORK_ORDINAL, ORDINAL_PLACE, Protocol, Reply, kind_with, shape_of,
-};
+use fidl_wire::{Body, Header, Ordinals, WireFault, WireWhat};
+use io_messages::{FRAMEWORK_ENVELOPE, FRAMEWORK_ORDINAL, ORDINAL_PLACE, Protocol, Reply, kind_with, shape_of};
 
 /// The reply that bytes and handles are, and its transaction id.
 ///

@@ -14,7 +14,7 @@ use Rattle.std.proofs.lemmas.Cmp.{nat_cmp_total}
 use Rattle.std.proofs.lemmas.List.{nil_from_length}
 use Rattle.std.proofs.lemmas.List.Elements.{filter_agree}
 use Rattle.std.proofs.lemmas.Map.Keys.{sorted_head, sorted_tail}
-use Rattle.endpoint_link.specs.Numbering.{among}
+use Rattle.link_admission.specs.Numbering.{among}
 use Rattle.conn_rules.specs.Births.{Position, fresh}
 use Rattle.vfs_journal.specs.Deaths.{first_deaths, spread}
 use Rattle.vfs_journal.specs.Entries.{Sent, endpoints_in}

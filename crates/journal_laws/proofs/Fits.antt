@@ -5,7 +5,7 @@ use Rattle.std.proofs.lemmas.Bool.{or_cases, true≢false}
 use Rattle.std.proofs.lemmas.List.Elements.{All-weaker, All-filter, All-contains, All-contains_itself}
 use Rattle.std.proofs.lemmas.List.Kept.{AllPairs-filter}
 use Rattle.fidl_names.specs.declared.limits.TheConstants as limit
-use Rattle.endpoint_link.specs.Numbering.{among}
+use Rattle.link_admission.specs.Numbering.{among}
 use Rattle.fidl_names.specs.HandleNumber.{is_client}
 use Rattle.conn_rules.specs.Births.{Position}
 use Rattle.vfs_journal.specs.Deaths.{deaths_of}

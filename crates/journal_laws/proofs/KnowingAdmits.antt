@@ -4,18 +4,18 @@ use Rattle.std.specs.List.{list_any}
 use Rattle.std.proofs.lemmas.Bool.{or_cases, or_left, or_right, true≢false}
 use Rattle.std.proofs.lemmas.List.Elements.{All-contains}
 use Rattle.fidl_names.specs.declared.limits.TheConstants as limit
-use Rattle.endpoint_link.specs.declared.kinds.FrameKind.{FrameKind}
-use Rattle.endpoint_link.specs.declared.kinds.FrameKind.TheVariants as kind
-use Rattle.endpoint_link.specs.declared.kinds.Refusal.{Refusal}
-use Rattle.endpoint_link.specs.declared.kinds.Refusal.TheVariants as refusal
-use Rattle.endpoint_link.specs.declared.kinds.Standing.{Standing}
-use Rattle.endpoint_link.specs.declared.kinds.Standing.TheVariants as standing
-use Rattle.endpoint_link.specs.Admission.{LookUps, admission, refusal_by, by_standing, may_travel, all_may_travel, look_ups as known_look_ups}
+use Rattle.link_frames.specs.declared.kinds.FrameKind.{FrameKind}
+use Rattle.link_frames.specs.declared.kinds.FrameKind.TheVariants as kind
+use Rattle.link_frames.specs.declared.kinds.Refusal.{Refusal}
+use Rattle.link_frames.specs.declared.kinds.Refusal.TheVariants as refusal
+use Rattle.link_admission.specs.declared.kinds.Standing.{Standing}
+use Rattle.link_admission.specs.declared.kinds.Standing.TheVariants as standing
+use Rattle.link_admission.specs.Admission.{LookUps, admission, refusal_by, by_standing, may_travel, all_may_travel, look_ups as known_look_ups}
 use Rattle.fidl_names.specs.First.{cause_if, first_of}
-use Rattle.endpoint_link.specs.Frames.{Frame}
+use Rattle.link_frames.specs.Frames.{Frame}
 use Rattle.fidl_names.specs.HandleNumber.{is_client}
-use Rattle.endpoint_link.specs.Numbering.{among}
-use Rattle.endpoint_link.specs.Standings.{Known, holds, is_used as is_used_standing, standing_of as known_standing}
+use Rattle.link_admission.specs.Numbering.{among}
+use Rattle.link_admission.specs.Standings.{Known, holds, is_used as is_used_standing, standing_of as known_standing}
 use Rattle.io_rights.specs.Operations.{none}
 use Rattle.vfs_journal.specs.Entries.{Sent, Journal, handles_of, refuses}
 use Rattle.vfs_journal.specs.History.{all_sent, waiting, is_dead, is_live, is_used, hung_up}

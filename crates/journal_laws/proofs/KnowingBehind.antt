@@ -14,10 +14,10 @@ use Rattle.std.proofs.lemmas.List.Folds.{list_any-append}
 use Rattle.std.proofs.lemmas.List.Kept.{AllPairs-filter}
 use Rattle.fidl_names.specs.HandleNumber.{is_client}
 use Rattle.fidl_names.specs.declared.limits.TheConstants as limit
-use Rattle.endpoint_link.specs.declared.kinds.Standing.{Standing}
-use Rattle.endpoint_link.specs.declared.kinds.Standing.TheVariants as standing
-use Rattle.endpoint_link.specs.Numbering.{among}
-use Rattle.endpoint_link.specs.Standings.{Known, standing_of as known_standing, ended as ended_in, given, gone}
+use Rattle.link_admission.specs.declared.kinds.Standing.{Standing}
+use Rattle.link_admission.specs.declared.kinds.Standing.TheVariants as standing
+use Rattle.link_admission.specs.Numbering.{among}
+use Rattle.link_admission.specs.Standings.{Known, standing_of as known_standing, ended as ended_in, given, gone}
 use Rattle.vfs_journal.specs.Entries.{Sent, Journal, message, handles_of, serves}
 use Rattle.vfs_journal.specs.Deaths.{deaths_of}
 use Rattle.vfs_journal.specs.History.{History, all_sent, waiting, was_carried}

@@ -5,9 +5,9 @@ use Rattle.std.specs.List.{list_any, range_with_len}
 use Rattle.std.proofs.lemmas.Bool.{eqb-true, eq-eqb, ne_eqb, or_cases, or_left, or_right, or_from, and_from, and_parts, le-leb, leb-true, lt-ltb, ltb-true, cases_eq, false_from_ne_true, true≢false, not-true}
 use Rattle.std.proofs.lemmas.List.Elements.{All-head, All-tail, Contains-append_left}
 use Rattle.std.proofs.lemmas.List.Kept.{AllPairs-filter}
-use Rattle.endpoint_link.specs.declared.kinds.FrameKind.TheVariants as kind
+use Rattle.link_frames.specs.declared.kinds.FrameKind.TheVariants as kind
 use Rattle.fidl_names.specs.HandleNumber.{is_client, end_of_mount}
-use Rattle.endpoint_link.specs.Numbering.{among}
+use Rattle.link_admission.specs.Numbering.{among}
 use Rattle.io_messages.specs.declared.protocols.Protocol.{Protocol}
 use Rattle.io_messages.specs.declared.protocols.Protocol.TheVariants as protocol
 use Rattle.conn_rules.specs.Answers.{Answer, replies, closes, binds, watches, forwards, refuses as refuses_to, ends, hangs_up, silent}

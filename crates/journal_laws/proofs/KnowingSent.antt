@@ -11,16 +11,16 @@ use Rattle.std.specs.FinMap.{get-insert}
 use Rattle.std.proofs.lemmas.Cmp.{nat_cmp_total}
 use Rattle.std.proofs.lemmas.Bool.Decides.{nat_tests}
 use Rattle.fidl_names.specs.declared.limits.TheConstants as limit
-use Rattle.endpoint_link.specs.declared.kinds.FrameKind.{FrameKind}
-use Rattle.endpoint_link.specs.declared.kinds.FrameKind.TheVariants as kind
-use Rattle.endpoint_link.specs.declared.kinds.Standing.{Standing}
-use Rattle.endpoint_link.specs.declared.kinds.Standing.TheVariants as standing
-use Rattle.endpoint_link.specs.Admission.{admission, may_travel, Admits, AdmitsKind}
-use Rattle.endpoint_link.specs.Frames.{Frame}
+use Rattle.link_frames.specs.declared.kinds.FrameKind.{FrameKind}
+use Rattle.link_frames.specs.declared.kinds.FrameKind.TheVariants as kind
+use Rattle.link_admission.specs.declared.kinds.Standing.{Standing}
+use Rattle.link_admission.specs.declared.kinds.Standing.TheVariants as standing
+use Rattle.link_admission.specs.Admission.{admission, may_travel, Admits, AdmitsKind}
+use Rattle.link_frames.specs.Frames.{Frame}
 use Rattle.fidl_names.specs.HandleNumber.{is_client}
-use Rattle.endpoint_link.specs.Numbering.{among}
-use Rattle.endpoint_link.specs.Standings.{Known, Sends, hung_up as hung_up_in}
-use Rattle.endpoint_link.proofs.Travelling.{unused_by, held_by as held_when}
+use Rattle.link_admission.specs.Numbering.{among}
+use Rattle.link_admission.specs.Standings.{Known, Sends, hung_up as hung_up_in}
+use Rattle.link_admission.proofs.Travelling.{unused_by, held_by as held_when}
 use Rattle.vfs_journal.specs.Entries.{Sent, Sending, Journal, message, hang_up, handles_of, endpoints_in, is_hang_up, sends}
 use Rattle.vfs_journal.specs.History.{History, all_sent, waiting, travelling, waits, was_served, was_carried, is_dead, is_live, is_used, hung_up, live_count}
 use Rattle.journal_laws.specs.Knowing.{Knows, token_out}

@@ -5,11 +5,11 @@ use Rattle.std.proofs.lemmas.List.{length-map, map-append}
 use Rattle.std.specs.Ordering.{nat_cmp}
 use Rattle.std.specs.FinMap as finite
 use Rattle.std.specs.FinMap.{get-empty}
-use Rattle.endpoint_link.specs.declared.kinds.Standing.{Standing}
-use Rattle.endpoint_link.specs.declared.kinds.Standing.TheVariants as standing
+use Rattle.link_admission.specs.declared.kinds.Standing.{Standing}
+use Rattle.link_admission.specs.declared.kinds.Standing.TheVariants as standing
 use Rattle.fidl_names.specs.HandleNumber.{is_mount_end}
-use Rattle.endpoint_link.specs.Numbering.{among}
-use Rattle.endpoint_link.specs.Standings.{Known, Starts, is_live as is_live_standing, standing_of as known_standing, ended as ended_in}
+use Rattle.link_admission.specs.Numbering.{among}
+use Rattle.link_admission.specs.Standings.{Known, Starts, is_live as is_live_standing, standing_of as known_standing, ended as ended_in}
 use Rattle.vfs_journal.specs.Entries.{Sent, Journal}
 use Rattle.vfs_journal.specs.History.{births, living, is_dead, is_live, hung_up}
 use Rattle.journal_laws.specs.Knowing.{Knows, IsNumbered, AreDeaths, deaths_at}

@@ -6,7 +6,7 @@ use Rattle.std.specs.FinMap as map
 use Rattle.std.proofs.lemmas.Bool.{eq-eqb, true≢false}
 use Rattle.std.proofs.lemmas.Bool.Decides.{nat_tests}
 use Rattle.fidl_names.specs.declared.limits.TheConstants as limit
-use Rattle.endpoint_link.specs.Standings.{Known, holds, next_token_of}
+use Rattle.link_admission.specs.Standings.{Known, holds, next_token_of}
 use Rattle.vfs_journal.specs.History.{History, was_carried}
 use Rattle.vfs_journal.specs.Outcomes.{Given}
 use Rattle.vfs_journal.specs.Tokens.{all_given, is_held, next_token, tokens_out, waits_with, was_given}

@@ -4,7 +4,7 @@ use Rattle.std.proofs.lemmas.Bool.{eqb-false, eq-eqb, or_parts, not-true}
 use Rattle.std.proofs.lemmas.List.Elements.{All-nil, All-cons, All-push, All-weaker, All-contains, Contains-append_left, Contains-append_cases}
 use Rattle.std.proofs.lemmas.List.Kept.{AllPairs-cons, AllPairs-filter}
 use Rattle.std.proofs.lemmas.List.Quantifiers.{all_pairs_push}
-use Rattle.endpoint_link.specs.Numbering.{among}
+use Rattle.link_admission.specs.Numbering.{among}
 use Rattle.vfs_journal.specs.Deaths.{others}
 use Rattle.vfs_journal.specs.Entries.{Sent, Journal, sends, serves, refuses}
 use Rattle.vfs_journal.specs.History.{History, all_sent, was_served, waits, waiting, is_bound}

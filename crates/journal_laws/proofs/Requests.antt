@@ -16,7 +16,7 @@ use Rattle.request_reader.specs.Laws.{Carries as CarriesHandle}
 use Rattle.io_messages.specs.Requests.{asked_from}
 use Rattle.request_reader.proofs.Carrying.{carries as carries_handle}
 use Rattle.request_reader.proofs.RequestLaws.{what_is_read, what_is_spelled}
-use Rattle.endpoint_link.specs.Numbering.{among}
+use Rattle.link_admission.specs.Numbering.{among}
 use Rattle.fidl_names.specs.HandleNumber.{handle_with}
 use Rattle.vfs_journal.specs.Serving.{read_by}
 use Rattle.journal_laws.proofs.Members.{contains_cases, contains_none}

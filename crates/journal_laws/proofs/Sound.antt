@@ -5,13 +5,13 @@ use Rattle.std.proofs.lemmas.Bool.{or_cases, or_left, or_right}
 use Rattle.std.proofs.lemmas.List.Elements.{All-contains, Contains-append_cases}
 use Rattle.std.proofs.lemmas.List.Folds.{list_any-append}
 use Rattle.fidl_names.specs.HandleNumber.{is_client}
-use Rattle.endpoint_link.specs.Numbering.{among}
+use Rattle.link_admission.specs.Numbering.{among}
 use Rattle.node_graph.specs.Tree.{Tree}
 use Rattle.path_walk.specs.Paths.{IsPath, text_of}
 use Rattle.vfs_journal.specs.Entries.{Sent, Sending, message, hang_up, handles_of, endpoints_in}
 use Rattle.vfs_journal.specs.History.{History, all_sent, births, living, waiting, is_dead, trees_of}
 use Rattle.vfs_journal.specs.Outcomes.{Given}
-use Rattle.remote_forward.specs.Onward.{onward_bytes}
+use Rattle.conn_rules.specs.Onward.{onward_bytes}
 use Rattle.journal_laws.specs.Soundness.{IsStart, AreMounted, mount_ends}
 use Rattle.vfs_journal.specs.Starts.{Bound, Start}
 use Rattle.vfs_journal.specs.Tokens.{all_given}

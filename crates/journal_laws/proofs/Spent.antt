@@ -4,7 +4,7 @@ use Rattle.std.specs.List.{list_any}
 use Rattle.std.proofs.lemmas.Bool.{and_from, and_parts, cases_Bool, eqb-true, eq-eqb, or_cases, true≢false}
 use Rattle.std.proofs.lemmas.List.Elements.{All-contains}
 use Rattle.fidl_names.specs.HandleNumber.{is_client}
-use Rattle.endpoint_link.specs.Numbering.{among}
+use Rattle.link_admission.specs.Numbering.{among}
 use Rattle.vfs_journal.specs.Entries.{Sent, handles_of, tokens_in}
 use Rattle.vfs_journal.specs.Fit.{IsFit}
 use Rattle.vfs_journal.specs.View.{View, deaths_in, head_in, others_in}

@@ -1,11 +1,11 @@
 -- A session entry by entry, and the one induction over its times: at each its journal is lawful, or ends with a serving whose Open that
 -- goes on isn't sent yet.
 use Rattle.std.proofs.Common.{◌≡◌, ℕ, [], ◌∷◌, ◌++◌, length, Option, Some, None, refl, subst}
-use Rattle.endpoint_link.specs.Admission.{admission}
-use Rattle.endpoint_link.specs.declared.kinds.FrameKind.TheVariants as kind
-use Rattle.endpoint_link.specs.declared.kinds.Refusal.{Refusal}
-use Rattle.endpoint_link.specs.declared.kinds.Side.TheVariants.{ToServers}
-use Rattle.endpoint_link.specs.Frames.{Frame, IsFrame}
+use Rattle.link_admission.specs.Admission.{admission}
+use Rattle.link_frames.specs.declared.kinds.FrameKind.TheVariants as kind
+use Rattle.link_frames.specs.declared.kinds.Refusal.{Refusal}
+use Rattle.link_frames.specs.declared.kinds.Side.TheVariants.{ToServers}
+use Rattle.link_frames.specs.Frames.{Frame, IsFrame}
 use Rattle.vfs_journal.specs.Entries.{Entry, Sent, Journal, message, hang_up, sends, serves, refuses}
 use Rattle.vfs_journal.specs.Lawful.{Lawful, begun, refused, sent, closed, served}
 use Rattle.vfs_journal.specs.Outcomes.{Forwarded}

@@ -7,10 +7,10 @@ use Rattle.std.proofs.lemmas.List.Concat.{flat_map-append}
 use Rattle.std.proofs.lemmas.List.Elements.{filter-append, filter_agree}
 use Rattle.std.proofs.lemmas.List.Folds.{list_any-append}
 use Rattle.fidl_names.specs.declared.limits.TheConstants as limit
-use Rattle.endpoint_link.specs.declared.kinds.Refusal.{Refusal}
-use Rattle.endpoint_link.specs.declared.kinds.Standing.TheVariants as standing
-use Rattle.endpoint_link.specs.Admission.{LookUps}
-use Rattle.endpoint_link.specs.Numbering.{among}
+use Rattle.link_frames.specs.declared.kinds.Refusal.{Refusal}
+use Rattle.link_admission.specs.declared.kinds.Standing.TheVariants as standing
+use Rattle.link_admission.specs.Admission.{LookUps}
+use Rattle.link_admission.specs.Numbering.{among}
 use Rattle.node_graph.specs.Tree.{Tree, bare_tree}
 use Rattle.conn_rules.specs.Births.{Position}
 use Rattle.vfs_journal.specs.Deaths.{others}

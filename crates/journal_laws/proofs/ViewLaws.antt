@@ -4,9 +4,9 @@ use Rattle.std.proofs.lemmas.Bool.{eq-eqb, eqb-true, false_from_ne_true, true≢
 use Rattle.std.proofs.lemmas.List.Concat.{flat_map-append}
 use Rattle.std.proofs.lemmas.List.Elements.{All-contains}
 use Rattle.fidl_names.specs.declared.limits.TheConstants as limit
-use Rattle.endpoint_link.specs.Admission.{admission}
-use Rattle.endpoint_link.specs.declared.kinds.FrameKind.TheVariants as kind
-use Rattle.endpoint_link.specs.Frames.{Frame, spelling, spellings}
+use Rattle.link_admission.specs.Admission.{admission}
+use Rattle.link_frames.specs.declared.kinds.FrameKind.TheVariants as kind
+use Rattle.link_frames.specs.Frames.{Frame, spelling, spellings}
 use Rattle.vfs_journal.specs.Entries.{Sent, Sending, Journal, message, hang_up, sends, serves}
 use Rattle.vfs_journal.specs.History.{History, is_dead, living, trees_of, waiting, was_carried}
 use Rattle.vfs_journal.specs.Lawful.{Lawful}

@@ -3,7 +3,7 @@ use Rattle.std.proofs.Common.{◌≡◌, ℕ, ◌+◌, ◌<◌, ◌≤◌, ◌==
 use Rattle.std.proofs.lemmas.Bool.{eq-eqb}
 use Rattle.std.proofs.lemmas.List.Filters.{sum_by-filter_both}
 use Rattle.std.proofs.lemmas.List.Sums.{sum_by-append, get_or-le-sum_by}
-use Rattle.endpoint_link.specs.Numbering.{among}
+use Rattle.link_admission.specs.Numbering.{among}
 use Rattle.io_messages.specs.declared.protocols.Protocol.TheVariants as protocol
 use Rattle.io_messages.specs.Asked.{Asked}
 use Rattle.io_messages.specs.Asked as asks
@@ -14,7 +14,7 @@ use Rattle.vfs_journal.specs.Deaths.{others}
 use Rattle.vfs_journal.specs.Entries.{Sent, Sending, Journal, message, hang_up, sends, serves}
 use Rattle.vfs_journal.specs.History.{History, waiting, waits}
 use Rattle.vfs_journal.specs.Outcomes.{Forwarded}
-use Rattle.remote_forward.specs.Onward.{onward_bytes}
+use Rattle.conn_rules.specs.Onward.{onward_bytes}
 use Rattle.vfs_journal.specs.Past.{event_of, behind, history_of}
 use Rattle.vfs_journal.specs.Serving.{Read, read_by, outcome_of}
 use Rattle.vfs_journal.specs.Session.{head, sent_behind, with_forward, after_serving, weight, weight_of, weight_of_read}

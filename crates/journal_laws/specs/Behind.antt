@@ -1,7 +1,7 @@
 -- What is looked up in the view behind a serving: each endpoint by itself, whatever else there is.
 use Rattle.std.specs.Prelude.{◌≡◌, ◌+◌, ◌==◌, ℕ, false, if◌then◌else◌, List, [], ◌∷◌, ◌++◌, drop, Option, None}
 use Rattle.std.specs.Option.{option_map, option_map_or}
-use Rattle.endpoint_link.specs.Numbering.{among}
+use Rattle.link_admission.specs.Numbering.{among}
 use Rattle.conn_rules.specs.Births.{Position, fresh}
 use Rattle.vfs_journal.specs.Entries.{Sent}
 use Rattle.vfs_journal.specs.Starts.{Bound}

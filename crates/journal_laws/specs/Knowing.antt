@@ -4,9 +4,9 @@ use Rattle.std.specs.FinMap as finite
 use Rattle.std.specs.List.{range_with_len}
 use Rattle.fidl_names.specs.declared.limits.TheConstants as limit
 use Rattle.fidl_names.specs.HandleNumber.{end_of_mount}
-use Rattle.endpoint_link.specs.declared.kinds.Standing.TheVariants as standing
-use Rattle.endpoint_link.specs.Numbering.{among}
-use Rattle.endpoint_link.specs.Standings.{Known, holds, is_live, next_token_of, standing_of as known_standing, ended as ended_in, given, gone}
+use Rattle.link_admission.specs.declared.kinds.Standing.TheVariants as standing
+use Rattle.link_admission.specs.Numbering.{among}
+use Rattle.link_admission.specs.Standings.{Known, holds, is_live, next_token_of, standing_of as known_standing, ended as ended_in, given, gone}
 use Rattle.vfs_journal.specs.Deaths.{deaths_of}
 use Rattle.vfs_journal.specs.Entries.{Sent, Journal, tokens_in}
 use Rattle.vfs_journal.specs.History.{History, waiting, standing_of, live_count}

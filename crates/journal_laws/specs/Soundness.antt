@@ -8,11 +8,11 @@ use Rattle.node_graph.specs.Tree.{IsSound, NodeRow, Tree, kind_of}
 use Rattle.session_start.specs.Accepted.{AreAccepted, HasFilesOfBytes}
 use Rattle.session_start.specs.Items.{Lists}
 use Rattle.session_start.specs.Sound.{HasOneEdge}
-use Rattle.endpoint_link.specs.declared.kinds.Mode.{Mode}
-use Rattle.endpoint_link.specs.declared.kinds.Side.TheVariants.{ToServers}
-use Rattle.endpoint_link.specs.Frames.{Frame, IsFrame}
+use Rattle.link_frames.specs.declared.kinds.Mode.{Mode}
+use Rattle.link_frames.specs.declared.kinds.Side.TheVariants.{ToServers}
+use Rattle.link_frames.specs.Frames.{Frame, IsFrame}
 use Rattle.fidl_names.specs.HandleNumber.{is_client, end_of_mount}
-use Rattle.endpoint_link.specs.Numbering.{among}
+use Rattle.link_admission.specs.Numbering.{among}
 use Rattle.vfs_journal.specs.Deaths.{deaths_of, others}
 use Rattle.vfs_journal.specs.Entries.{Sent, Journal, message, serves, endpoints_in}
 use Rattle.vfs_journal.specs.History.{History, births, all_sent, was_served, waiting, travelling, tree_at, is_bound, is_dead, is_used}

@@ -1,16 +1,16 @@
 -- What the reader of records finds.
 use Rattle.std.proofs.Common.{◌≡◌, ◌≤◌, ℕ, false, List, ◌∷◌, ◌++◌, length, drop, refl, sym, ap, ◌∙◌, arith}
 use Rattle.std.proofs.lemmas.List.{take-append-drop}
-use Rattle.endpoint_link.specs.declared.frame.Reading.{Reading}
-use Rattle.endpoint_link.specs.declared.frame.Reading.TheVariants as reading
-use Rattle.endpoint_link.specs.declared.kinds.Side.{Side}
-use Rattle.endpoint_link.specs.declared.kinds.Side.TheVariants as side
-use Rattle.endpoint_link.specs.Frames.{Frame}
-use Rattle.endpoint_link.specs.Numbers.{word_in}
-use Rattle.endpoint_link.specs.Views.{IsWholeFront, Reads}
-use Rattle.endpoint_link.proofs.Spelled.{spelling-injective}
-use Rattle.endpoint_link.proofs.Streams.{NoFront, bad_no_front, partial_no_front}
-use Rattle.endpoint_link.proofs.Words.{word_in-lt, word_of-word_in}
+use Rattle.link_frames.specs.declared.frame.Reading.{Reading}
+use Rattle.link_frames.specs.declared.frame.Reading.TheVariants as reading
+use Rattle.link_frames.specs.declared.kinds.Side.{Side}
+use Rattle.link_frames.specs.declared.kinds.Side.TheVariants as side
+use Rattle.link_frames.specs.Frames.{Frame}
+use Rattle.link_frames.specs.Numbers.{word_in}
+use Rattle.link_frames.specs.Views.{IsWholeFront, Reads}
+use Rattle.link_frames.proofs.Spelled.{spelling-injective}
+use Rattle.link_frames.proofs.Streams.{NoFront, bad_no_front, partial_no_front}
+use Rattle.link_frames.proofs.Words.{word_in-lt, word_of-word_in}
 use Rattle.fidl_names.specs.Numbers.{AreBytes}
 use Rattle.link_audit.specs.Records.{HasNoRecord, is_answering, is_sending}
 use Rattle.link_audit.specs.Fronts.{Shows}

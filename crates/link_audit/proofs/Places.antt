@@ -2,8 +2,8 @@
 use Rattle.std.proofs.Common.{◌≡◌, ◌⊎◌, ℕ, List, [], ◌∷◌, ◌++◌, refl, sym, ap, ◌∙◌, subst, append_assoc, append-nil, inl, inr}
 use Rattle.std.specs.Prelude.{All}
 use Rattle.std.proofs.lemmas.List.Elements.{All-append, All-cons, All-head, All-nil, All-tail}
-use Rattle.endpoint_link.specs.Frames.{spelling}
-use Rattle.endpoint_link.specs.Numbers.{word_of}
+use Rattle.link_frames.specs.Frames.{spelling}
+use Rattle.link_frames.specs.Numbers.{word_of}
 use Rattle.vfs_journal.specs.Starts.{Start}
 use Rattle.link_audit.specs.Records.{IsRecord, Record, comes_in, ends, goes_out, served, spelling_of, spellings_of}
 use Rattle.link_audit.specs.Recorded.{EachStands, MayStand}

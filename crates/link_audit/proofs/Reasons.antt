@@ -1,7 +1,7 @@
 -- Which reason against a record is the first.
 use Rattle.std.proofs.Common.{◌≡◌, ◌<◌, ℕ, List, [], ◌∷◌, arith}
 use Rattle.std.specs.Prelude.{None}
-use Rattle.endpoint_link.specs.Frames.{Frame}
+use Rattle.link_frames.specs.Frames.{Frame}
 use Rattle.vfs_journal.specs.Past.{history_of}
 use Rattle.vfs_journal.specs.Session.{head}
 use Rattle.vfs_journal.specs.Starts.{Start}

@@ -5,9 +5,9 @@ use Rattle.std.proofs.lemmas.List.{drop-drop, drop_all}
 use Rattle.std.proofs.lemmas.List.Concat.{flat_map-append}
 use Rattle.std.proofs.lemmas.List.Elements.{All-head, All-nil, All-tail}
 use Rattle.std.proofs.lemmas.List.Sums.{fold-append}
-use Rattle.endpoint_link.specs.declared.kinds.Side.TheVariants as side
-use Rattle.endpoint_link.specs.Frames.{Frame, IsFrame, spelling, spellings}
-use Rattle.endpoint_link.proofs.Spelled.{length-spelling, spelling-injective}
+use Rattle.link_frames.specs.declared.kinds.Side.TheVariants as side
+use Rattle.link_frames.specs.Frames.{Frame, IsFrame, spelling, spellings}
+use Rattle.link_frames.proofs.Spelled.{length-spelling, spelling-injective}
 use Rattle.fidl_wire.specs.Names.{AreDistinct}
 use Rattle.frame_laws.proofs.Readings.{parts_are_read_back}
 use Rattle.frame_laws.specs.Bytes.{BeginsWithBytes}

@@ -1,11 +1,11 @@
 -- A record in front of some bytes, by the tag that stands there; and that there is but one.
 use Rattle.std.proofs.Common.{◌≡◌, ◌<◌, ◌^◌, ℕ, List, [], ◌∷◌, ◌++◌, length, drop, refl, sym, ap, ◌∙◌, arith, length-append, IsTrue}
-use Rattle.endpoint_link.specs.declared.kinds.Side.{Side}
-use Rattle.endpoint_link.specs.declared.kinds.Side.TheVariants as side
-use Rattle.endpoint_link.specs.Frames.{Frame, IsFrame, spelling}
-use Rattle.endpoint_link.specs.Numbers.{word_in, word_of}
-use Rattle.endpoint_link.proofs.Spelled.{spelling-injective}
-use Rattle.endpoint_link.proofs.Words.{drop-word_of, length-word_of, word_in-word_of}
+use Rattle.link_frames.specs.declared.kinds.Side.{Side}
+use Rattle.link_frames.specs.declared.kinds.Side.TheVariants as side
+use Rattle.link_frames.specs.Frames.{Frame, IsFrame, spelling}
+use Rattle.link_frames.specs.Numbers.{word_in, word_of}
+use Rattle.link_frames.proofs.Spelled.{spelling-injective}
+use Rattle.link_frames.proofs.Words.{drop-word_of, length-word_of, word_in-word_of}
 use Rattle.link_audit.specs.Records.{HasNoRecord, IsRecord, Record, comes_in, ends, goes_out, is_answering, is_sending, served, spelling_of}
 
 -- ---- lists of bytes with a tag

@@ -1,7 +1,7 @@
 -- What the auditor holds behind records.
 use Rattle.std.specs.Prelude.{◌≡◌, ◌≤◌, ◌<◌, ℕ, All, List, [], ◌∷◌, ◌++◌, Option, Some, None, length}
-use Rattle.endpoint_link.specs.declared.kinds.Side.TheVariants as side
-use Rattle.endpoint_link.specs.Frames.{Frame, IsFrame, spellings}
+use Rattle.link_frames.specs.declared.kinds.Side.TheVariants as side
+use Rattle.link_frames.specs.Frames.{Frame, IsFrame, spellings}
 use Rattle.fidl_wire.specs.Names.{AreDistinct}
 use Rattle.frame_laws.specs.Bytes.{BeginsWithBytes}
 use Rattle.vfs_journal.specs.Output.{frames_behind}

@@ -1,7 +1,7 @@
 -- What a lent record stands for, and what is read in front of some bytes.
 use Rattle.std.specs.Prelude.{◌≡◌, ◌≤◌, ◌<◌, ℕ, List, length, drop}
-use Rattle.endpoint_link.specs.Frames.{spelling}
-use Rattle.endpoint_link.specs.Views.{frame_of}
+use Rattle.link_frames.specs.Frames.{spelling}
+use Rattle.link_frames.specs.Views.{frame_of}
 use Rattle.link_audit.specs.Records.{InFront, Record, comes_in, ends, goes_out, served}
 use Rattle.link_audit.specs.declared.records.Front.{Front}
 use Rattle.link_audit.specs.declared.records.Record.{Record as Lent}

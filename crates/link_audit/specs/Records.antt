@@ -1,11 +1,11 @@
 -- The records of a recording, and how each is spelled.
 use Rattle.std.specs.Prelude.{◌≡◌, ◌<◌, ◌^◌, ℕ, Bool, true, false, IsTrue, List, [], ◌∷◌, ◌++◌}
 use Rattle.std.specs.List.{flat_map}
-use Rattle.endpoint_link.specs.declared.kinds.FrameKind.{FrameKind}
-use Rattle.endpoint_link.specs.declared.kinds.FrameKind.TheVariants as kind
-use Rattle.endpoint_link.specs.declared.kinds.Side.TheVariants as side
-use Rattle.endpoint_link.specs.Frames.{Frame, IsFrame, spelling}
-use Rattle.endpoint_link.specs.Numbers.{word_of}
+use Rattle.link_frames.specs.declared.kinds.FrameKind.{FrameKind}
+use Rattle.link_frames.specs.declared.kinds.FrameKind.TheVariants as kind
+use Rattle.link_frames.specs.declared.kinds.Side.TheVariants as side
+use Rattle.link_frames.specs.Frames.{Frame, IsFrame, spelling}
+use Rattle.link_frames.specs.Numbers.{word_of}
 
 -- a frame came in, the first entry that waits on an endpoint was served, a frame went out; and the recording's end
 pub data Record : Type 0 where

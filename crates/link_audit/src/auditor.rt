@@ -2,9 +2,9 @@
 
 ghost use Rattle.std.specs.Prelude.{◌≡◌, ◌≢◌, ◌<◌, ◌≤◌, List, [], ◌∷◌, IfOk, true, false, drop, length};
 ghost use Rattle.fidl_names.specs.declared.limits.TheConstants as limit;
-ghost use Rattle.endpoint_link.specs.Frames.{Frame, IsFrame, spelling};
-ghost use Rattle.endpoint_link.specs.Views.{frame_of};
-ghost use Rattle.endpoint_link.specs.declared.kinds.Side.TheVariants as side;
+ghost use Rattle.link_frames.specs.Frames.{Frame, IsFrame, spelling};
+ghost use Rattle.link_frames.specs.Views.{frame_of};
+ghost use Rattle.link_frames.specs.declared.kinds.Side.TheVariants as side;
 ghost use Rattle.session_start.specs.Accepted.{AreAccepted, HasFilesOfBytes};
 ghost use Rattle.vfs_journal.specs.Starts.{Start as TheStart, start_of};
 ghost use Rattle.link_audit.specs.Auditing.{Audits, Judges};
@@ -13,9 +13,9 @@ ghost use Rattle.link_audit.specs.Records.{IsRecord, Record as TheRecord, comes_
 
 use crate::records::Record;
 use crate::verdicts::Why;
-use endpoint_link::{FrameView, Outbox};
 use fidl_names::NoMemory;
 use fidl_wire::Ordinals;
+use link_frames::{FrameView, Outbox};
 use session_start::Start;
 use std::alloc::Global;
 use std::marker::Model;

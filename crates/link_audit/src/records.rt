@@ -1,11 +1,11 @@
 // The record that stands in front of some bytes.
 
 ghost use Rattle.std.specs.Prelude.{◌≡◌, ◌∷◌, IfSome, IsNone};
-ghost use Rattle.endpoint_link.specs.Views.{frame_of};
+ghost use Rattle.link_frames.specs.Views.{frame_of};
 ghost use Rattle.link_audit.specs.Records.{HasNoRecord, is_answering, is_sending};
 ghost use Rattle.link_audit.specs.Fronts.{Shows};
 
-use endpoint_link::{FrameKind, FrameView, Reading, Side, frame_at, word_in};
+use link_frames::{FrameKind, FrameView, Reading, Side, frame_at, word_in};
 
 /// A record, lent from where it stands.
 #[derive(Clone, Copy)]

@@ -7,10 +7,10 @@ use Rattle.std.specs.Io.KnownBytes.{Appends, Consumes, IsAtEnd, Keeps}
 use Rattle.fidl_names.specs.declared.limits.TheConstants as limit
 use Rattle.std.proofs.KnownBytes.{Appends-trans, Appends-nil, Consumes-kept, Consumes-trans, Consumes-nil}
 use Rattle.host_io.specs.Streams.{AppendsPart, AreFlushed, IsFlushed}
-use Rattle.endpoint_link.specs.Frames.{Frame, Frames, IsFrame, spelling, spellings, IsPartial}
-use Rattle.endpoint_link.specs.Fronts.{Begins}
-use Rattle.endpoint_link.specs.declared.kinds.Side.{Side}
-use Rattle.endpoint_link.proofs.Streams.{frames_stay}
+use Rattle.link_frames.specs.Frames.{Frame, Frames, IsFrame, spelling, spellings, IsPartial}
+use Rattle.link_frames.specs.Fronts.{Begins}
+use Rattle.link_frames.specs.declared.kinds.Side.{Side}
+use Rattle.link_frames.proofs.Streams.{frames_stay}
 use Rattle.run_status.specs.Outside.{Streams}
 use Rattle.link_session.specs.Pieces.{TakesPiece}
 use Rattle.link_session.specs.Serving.{IsGrowing, Passes, Heard, HeardPart}

@@ -4,9 +4,9 @@ use Rattle.std.proofs.lemmas.List.{drop-drop}
 use Rattle.std.proofs.lemmas.List.Elements.{All-append, All-cons, All-nil}
 use Rattle.std.proofs.lemmas.List.Concat.{flat_map-append}
 use Rattle.std.proofs.KnownBytes.{Appends-trans, Appends-nil}
-use Rattle.endpoint_link.specs.Frames.{Frame, IsFrame, spelling, spellings}
-use Rattle.endpoint_link.specs.Views.{IsWholeFront}
-use Rattle.endpoint_link.specs.declared.kinds.Side.{Side}
+use Rattle.link_frames.specs.Frames.{Frame, IsFrame, spelling, spellings}
+use Rattle.link_frames.specs.Views.{IsWholeFront}
+use Rattle.link_frames.specs.declared.kinds.Side.{Side}
 use Rattle.link_session.specs.Serving.{Passes, Heard, HeardOne}
 use Rattle.link_session.specs.Session.{Course}
 

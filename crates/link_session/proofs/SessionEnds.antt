@@ -7,11 +7,11 @@ use Rattle.std.proofs.KnownBytes.{Appends-trans, Appends-nil, Consumes-kept}
 use Rattle.fidl_names.specs.declared.limits.TheConstants as limit
 use Rattle.host_io.specs.Causes.{Rose}
 use Rattle.host_io.specs.Streams.{IsFlushed}
-use Rattle.endpoint_link.specs.Frames.{Frame, Frames, Bad, spellings, IsBadFront, first_reason}
-use Rattle.endpoint_link.specs.declared.kinds.FrameReason.{FrameReason}
-use Rattle.endpoint_link.specs.declared.kinds.Side.{Side}
-use Rattle.endpoint_link.proofs.Spelled.{first_reason-append}
-use Rattle.endpoint_link.proofs.Streams.{not_both}
+use Rattle.link_frames.specs.Frames.{Frame, Frames, Bad, spellings, IsBadFront, first_reason}
+use Rattle.link_frames.specs.declared.kinds.FrameReason.{FrameReason}
+use Rattle.link_frames.specs.declared.kinds.Side.{Side}
+use Rattle.link_frames.proofs.Spelled.{first_reason-append}
+use Rattle.link_frames.proofs.Streams.{not_both}
 use Rattle.run_status.specs.declared.statuses.Status.{Status}
 use Rattle.run_status.specs.declared.statuses.Status.TheVariants as status
 use Rattle.run_status.specs.Outside.{Streams}

@@ -3,9 +3,9 @@ use Rattle.std.specs.Prelude.{◌≡◌, ℕ, ◌+◌, ◌≤◌, ◌⊎◌, IsT
 use Rattle.std.specs.Io.KnownBytes.{Appends}
 use Rattle.host_io.specs.Causes.{Rose}
 use Rattle.host_io.specs.Streams.{AppendsPart}
-use Rattle.endpoint_link.specs.Frames.{Frame, IsFrame, spellings, IsPartial, IsBadFront}
-use Rattle.endpoint_link.specs.Fronts.{Begins}
-use Rattle.endpoint_link.specs.declared.kinds.Side.{Side}
+use Rattle.link_frames.specs.Frames.{Frame, IsFrame, spellings, IsPartial, IsBadFront}
+use Rattle.link_frames.specs.Fronts.{Begins}
+use Rattle.link_frames.specs.declared.kinds.Side.{Side}
 use Rattle.run_status.specs.declared.statuses.Status.{Status}
 use Rattle.run_status.specs.declared.statuses.Status.TheVariants as status
 use Rattle.run_status.specs.Texts.{PassedOn}

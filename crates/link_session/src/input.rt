@@ -4,9 +4,9 @@ ghost use Rattle.host_io.specs.Causes.{HasCause};
 ghost use Rattle.host_io.specs.Streams.{IsLast};
 ghost use Rattle.link_session.specs.Pieces.{TakesPiece};
 
-use endpoint_link::MAX_FRAME_LEN;
 use fidl_names::MAX_PIECE;
 use host_io::{Failed, Source};
+use link_frames::MAX_FRAME_LEN;
 use std::alloc::{AllocError, Global};
 use std::marker::Model;
 
@@ -20,7 +20,7 @@ pub struct Input {
 impl Model for Input {
     ghost use Rattle.std.specs.Prelude.{◌≡◌, ◌≤◌, ◌+◌, ℕ, List, take, vec_len};
     ghost use Rattle.fidl_names.specs.declared.limits.TheConstants as limit;
-    ghost use Rattle.endpoint_link.specs.declared.fixed.TheConstants.{MAX_FRAME_LEN};
+    ghost use Rattle.link_frames.specs.declared.fixed.TheConstants.{MAX_FRAME_LEN};
 
     ghost Value = { List ℕ };
 

@@ -5,9 +5,9 @@ ghost use Rattle.fidl_names.specs.declared.limits.TheConstants as limit;
 ghost use Rattle.link_session.specs.Pieces.{Ends, ReadsOn};
 
 use crate::input::Input;
-use endpoint_link::MAX_FRAME_LEN;
 use fidl_names::{MAX_INPUT, MAX_PIECE};
 use host_io::Source;
+use link_frames::MAX_FRAME_LEN;
 
 /// How the reading of an input ended.
 #[derive(Clone, Copy)]

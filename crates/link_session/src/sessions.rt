@@ -2,9 +2,9 @@ ghost use Rattle.std.specs.Prelude.{◌≡◌, ◌≤◌, ◌<◌, ◌+◌, ◌�
 ghost use Rattle.fidl_names.specs.declared.limits.TheConstants as limit;
 ghost use Rattle.host_io.specs.Causes.{HasCause};
 ghost use Rattle.host_io.specs.Streams.{AppendsPart, IsFlushed};
-ghost use Rattle.endpoint_link.specs.Frames.{Frame, IsFrame};
-ghost use Rattle.endpoint_link.specs.Views.{frame_of};
-ghost use Rattle.endpoint_link.specs.declared.kinds.Side.{Side};
+ghost use Rattle.link_frames.specs.Frames.{Frame, IsFrame};
+ghost use Rattle.link_frames.specs.Views.{frame_of};
+ghost use Rattle.link_frames.specs.declared.kinds.Side.{Side};
 ghost use Rattle.run_status.specs.Outside.{streams_told};
 ghost use Rattle.run_status.specs.Texts.{PassedOn};
 ghost use Rattle.link_session.specs.Serving.{IsGrowing, Passes, HeardOne, HeardEnd, HeardPart, IsServing, HasWriteCause, Leaves, Finishes};
@@ -12,9 +12,9 @@ ghost use Rattle.link_session.specs.Session.{Course, SessionAnswers};
 
 use crate::input::Input;
 use crate::pump::{Ended, next_piece};
-use endpoint_link::{FrameReason, FrameView, Reading, Side, frame_at};
 use fidl_names::{MAX_PIECE, NoMemory};
 use host_io::{Failed, Sink, Source, write_whole};
+use link_frames::{FrameReason, FrameView, Reading, Side, frame_at};
 use run_status::Status;
 
 /// A session, frame by frame. What is written for its frames is held back, until it is passed on.

@@ -4,7 +4,7 @@ use Rattle.std.specs.Prelude.{◌||◌, AllPairs, None, Option, if◌then◌else
 use Rattle.std.proofs.lemmas.List.{get_or-take, length-take, take_more}
 use Rattle.std.proofs.lemmas.Option.{get_or_from_slice_get}
 use Rattle.std.proofs.lemmas.List.Sums.{sum_by-append}
-use Rattle.endpoint_link.specs.Numbering.{among}
+use Rattle.link_admission.specs.Numbering.{among}
 use Rattle.vfs_journal.specs.Entries.{Sent}
 use Rattle.message_queues.specs.Queues.{Queues, count, queue_of, server_of}
 use Rattle.message_queues.specs.Dying.{Buries}

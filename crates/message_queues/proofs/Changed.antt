@@ -11,8 +11,8 @@ use Rattle.std.specs.Ordering.{nat_cmp}
 use Rattle.std.proofs.lemmas.Bool.Decides.{nat_tests}
 use Rattle.std.proofs.lemmas.List.Sums.{sum_by-cons}
 use Rattle.std.proofs.lemmas.Map.Entries.{sum_by-remove_entry, sum_by-set_value, sum_by_values_permutation}
-use Rattle.endpoint_link.proofs.Tabled.{get-table, changes-table}
-use Rattle.endpoint_link.specs.Numbering.{among}
+use Rattle.link_admission.proofs.Tabled.{get-table, changes-table}
+use Rattle.link_admission.specs.Numbering.{among}
 use Rattle.vfs_journal.specs.Entries.{Sent}
 use Rattle.message_queues.specs.Queues.{Binds, Mailbox, Requeues, count, queue_of, server_of}
 use Rattle.message_queues.specs.Dying.{Buries}

@@ -13,7 +13,7 @@ use Rattle.std.specs.FinMap.Entries as entry
 use Rattle.std.proofs.lemmas.Cmp.{nat_cmp_total, tied_itself}
 use Rattle.std.proofs.lemmas.List.Sums.{sum_by-cons}
 use Rattle.std.proofs.lemmas.Map.Lookups.{CmpEqualImpliesEq}
-use Rattle.endpoint_link.proofs.Tabled.{get-table}
+use Rattle.link_admission.proofs.Tabled.{get-table}
 
 -- one key is another, or not
 pub data Same {K : Type 0} (R : K → K → Ordering) (q k : K) : Type 0 where

@@ -1,7 +1,7 @@
 -- Which endpoints die with others, and what is left.
 use Rattle.std.specs.Prelude.{◌≡◌, ◌≢◌, ℕ, Bool, true, All, AllPairs, List, [], None, if◌then◌else◌}
 use Rattle.std.specs.List.{flat_map}
-use Rattle.endpoint_link.specs.Numbering.{among}
+use Rattle.link_admission.specs.Numbering.{among}
 use Rattle.vfs_journal.specs.Entries.{endpoints_in, tokens_in}
 use Rattle.message_queues.specs.Queues.{Queues, queue_of, server_of}
 

@@ -7,7 +7,7 @@ use Rattle.std.specs.Ordering.{nat_cmp}
 use Rattle.std.specs.Prelude.{eqb}
 use Rattle.std.specs.BTreeMap.{is_at}
 use Rattle.fidl_names.specs.declared.limits.TheConstants as limit
-use Rattle.endpoint_link.specs.Numbering.{among}
+use Rattle.link_admission.specs.Numbering.{among}
 use Rattle.vfs_journal.specs.Entries.{Sent, endpoints_in, tokens_in}
 use Rattle.message_queues.specs.Queues.{Mailbox, Queues, count, head_of, queue_of, server_of}
 

@@ -1,7 +1,7 @@
 //! Endpoints that die with others.
 
 ghost use Rattle.std.specs.Prelude.{◌≡◌, ◌≢◌, ◌≤◌, ◌^◌, ◌++◌, [], ◌∷◌, AllPairs, IfOk, OnOk, OnErr, length, not, slice_get, take};
-ghost use Rattle.endpoint_link.specs.Numbering.{among};
+ghost use Rattle.link_admission.specs.Numbering.{among};
 ghost use Rattle.message_queues.specs.Steps.{Adds, Gathers, IsListed, with_number};
 
 use crate::parcel::Sent;

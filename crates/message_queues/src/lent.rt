@@ -2,14 +2,14 @@
 
 ghost use Rattle.std.specs.Prelude.{◌≡◌, ◌≤◌, None, IsNone, IfSome, IfOk, length};
 ghost use Rattle.fidl_names.specs.declared.limits.TheConstants as limit;
-ghost use Rattle.endpoint_link.specs.Views.{frame_of, handle_numbers};
+ghost use Rattle.link_frames.specs.Views.{frame_of, handle_numbers};
 ghost use Rattle.vfs_journal.specs.Entries.{handles_of, hang_up};
 ghost use Rattle.vfs_journal.specs.Handles.{AreByNumber, numbers_of};
 ghost use Rattle.message_queues.specs.Parcels.{IsMessage, sent_by};
 
 use crate::parcel::{Content, Sent};
-use endpoint_link::{FrameKind, FrameView, HandleBytes};
 use fidl_names::{Handle, NoMemory};
+use link_frames::{FrameKind, FrameView, HandleBytes};
 use std::alloc::Global;
 use std::marker::Model;
 

@@ -1,14 +1,14 @@
 //! What was sent on endpoints, as it is kept while it waits.
 
 ghost use Rattle.std.specs.Prelude.{◌≡◌, ◌≤◌, [], ◌∷◌, length, IfOk, IfSome, IsNone};
-ghost use Rattle.endpoint_link.specs.Views.{handle_numbers};
+ghost use Rattle.link_frames.specs.Views.{handle_numbers};
 ghost use Rattle.fidl_names.specs.declared.limits.TheConstants as limit;
 ghost use Rattle.vfs_journal.specs.Entries.{message, hang_up, handles_of};
 ghost use Rattle.vfs_journal.specs.Handles.{numbers_of};
 
 use crate::lent::handles_in;
-use endpoint_link::FrameView;
 use fidl_names::{Handle, NoMemory};
+use link_frames::FrameView;
 use std::alloc::Global;
 use std::marker::Model;
 

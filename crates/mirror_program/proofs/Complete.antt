@@ -3,11 +3,11 @@ use Rattle.std.proofs.Common.{◌≡◌, ℕ, List, [], ◌∷◌, ◌++◌, Opt
 use Rattle.std.specs.Prelude.{All}
 use Rattle.std.specs.Io.KnownBytes.{Consumes, IsAtEnd}
 use Rattle.std.proofs.lemmas.List.Elements.{All-head, All-tail}
-use Rattle.endpoint_link.specs.Frames.{Bad, Frame, Frames, spellings}
-use Rattle.endpoint_link.specs.declared.kinds.FrameReason.{FrameReason}
-use Rattle.endpoint_link.specs.declared.kinds.Side.TheVariants.{Any}
-use Rattle.endpoint_link.proofs.Runs.{bad_stays}
-use Rattle.endpoint_link.proofs.Streams.{frames_stay, not_both, one_list}
+use Rattle.link_frames.specs.Frames.{Bad, Frame, Frames, spellings}
+use Rattle.link_frames.specs.declared.kinds.FrameReason.{FrameReason}
+use Rattle.link_frames.specs.declared.kinds.Side.TheVariants.{Any}
+use Rattle.link_frames.proofs.Runs.{bad_stays}
+use Rattle.link_frames.proofs.Streams.{frames_stay, not_both, one_list}
 use Rattle.run_status.specs.Outside.{Streams}
 use Rattle.dir_mirror.specs.Copies.{HasBadEvents, HasGoodEvents}
 use Rattle.mirror_program.specs.Answers.{Answers, IsBadEvents, IsBadFrame, IsDoneOrNoMemory, IsTakable, IsTooLong, IsTruncated, MetNone}

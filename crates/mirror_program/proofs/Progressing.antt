@@ -8,11 +8,11 @@ use Rattle.std.proofs.lemmas.List.Elements.{All-append, All-cons, All-head, All-
 use Rattle.std.specs.Io.KnownBytes.{IsAtEnd}
 use Rattle.fidl_names.specs.declared.limits.TheConstants as limit
 use Rattle.host_io.specs.Causes.{Rose}
-use Rattle.endpoint_link.specs.Frames.{Bad, Frame, Frames, IsBadFront, IsFrame, IsPartial, spelling, spellings}
-use Rattle.endpoint_link.specs.Views.{IsWholeFront}
-use Rattle.endpoint_link.specs.declared.kinds.FrameReason.{FrameReason}
-use Rattle.endpoint_link.specs.declared.kinds.Side.TheVariants.{Any}
-use Rattle.endpoint_link.proofs.Streams.{partial_no_front}
+use Rattle.link_frames.specs.Frames.{Bad, Frame, Frames, IsBadFront, IsFrame, IsPartial, spelling, spellings}
+use Rattle.link_frames.specs.Views.{IsWholeFront}
+use Rattle.link_frames.specs.declared.kinds.FrameReason.{FrameReason}
+use Rattle.link_frames.specs.declared.kinds.Side.TheVariants.{Any}
+use Rattle.link_frames.proofs.Streams.{partial_no_front}
 use Rattle.link_session.specs.Pieces.{TakesPiece}
 use Rattle.link_session.specs.Serving.{HeardOne}
 use Rattle.link_session.proofs.Progress.{Grown, Grown-partial, Progress, Progress-heard, Progress-none}

@@ -2,11 +2,11 @@
 use Rattle.std.proofs.Common.{◌≡◌, ◌==◌, ℕ, cond, ◌&&◌, List, [], ◌∷◌, ◌++◌, Some, refl, sym, ap, ◌∙◌, subst, append-nil}
 use Rattle.std.specs.Prelude.{IsTrue, filter}
 use Rattle.fidl_wire.specs.Names.{AreDistinct}
-use Rattle.endpoint_link.specs.Frames.{Frame, Frames}
-use Rattle.endpoint_link.specs.declared.kinds.FrameKind.{FrameKind}
-use Rattle.endpoint_link.specs.declared.kinds.FrameKind.TheVariants as kind
-use Rattle.endpoint_link.specs.declared.kinds.Mode.{Mode}
-use Rattle.endpoint_link.specs.declared.kinds.Side.TheVariants.{Any}
+use Rattle.link_frames.specs.Frames.{Frame, Frames}
+use Rattle.link_frames.specs.declared.kinds.FrameKind.{FrameKind}
+use Rattle.link_frames.specs.declared.kinds.FrameKind.TheVariants as kind
+use Rattle.link_frames.specs.declared.kinds.Mode.{Mode}
+use Rattle.link_frames.specs.declared.kinds.Side.TheVariants.{Any}
 use Rattle.session_start.specs.Items.{Lists}
 use Rattle.watch_events.specs.Events.{Event}
 use Rattle.watch_events.specs.NamesNow.{is_named_now}

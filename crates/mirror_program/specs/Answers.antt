@@ -4,11 +4,11 @@ use Rattle.std.specs.Io.KnownBytes.{Consumes, IsAtEnd}
 use Rattle.fidl_names.specs.declared.limits.TheConstants as limit
 use Rattle.host_io.specs.Causes.{Rose}
 use Rattle.host_io.specs.Streams.{AppendsPart}
-use Rattle.endpoint_link.specs.Frames.{Bad, Frame, Frames, IsFrame, spelling, spellings}
-use Rattle.endpoint_link.specs.Fronts.{Begins}
-use Rattle.endpoint_link.specs.declared.fixed.TheConstants as fixed
-use Rattle.endpoint_link.specs.declared.kinds.FrameReason.{FrameReason}
-use Rattle.endpoint_link.specs.declared.kinds.Side.TheVariants.{Any}
+use Rattle.link_frames.specs.Frames.{Bad, Frame, Frames, IsFrame, spelling, spellings}
+use Rattle.link_frames.specs.Fronts.{Begins}
+use Rattle.link_frames.specs.declared.fixed.TheConstants as fixed
+use Rattle.link_frames.specs.declared.kinds.FrameReason.{FrameReason}
+use Rattle.link_frames.specs.declared.kinds.Side.TheVariants.{Any}
 use Rattle.run_status.specs.Outside.{Streams, sink_of}
 use Rattle.run_status.specs.Texts.{GotAll}
 use Rattle.link_session.specs.Session.{IsWhole}

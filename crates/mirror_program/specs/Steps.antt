@@ -1,8 +1,8 @@
 -- Words of steps: what one piece of the input led to. No public clause needs this.
 use Rattle.std.specs.Prelude.{◌≡◌, ℕ, All, List, [], drop, None, true}
-use Rattle.endpoint_link.specs.Frames.{Frame, IsBadFront, IsPartial}
-use Rattle.endpoint_link.specs.Views.{IsWholeFront}
-use Rattle.endpoint_link.specs.declared.kinds.Side.TheVariants.{Any}
+use Rattle.link_frames.specs.Frames.{Frame, IsBadFront, IsPartial}
+use Rattle.link_frames.specs.Views.{IsWholeFront}
+use Rattle.link_frames.specs.declared.kinds.Side.TheVariants.{Any}
 use Rattle.link_session.specs.Serving.{Heard}
 use Rattle.link_session.specs.Session.{Course}
 use Rattle.dir_mirror.specs.Copies.{Copy, HasBadEvents, HasGoodEvents, Mirrors}

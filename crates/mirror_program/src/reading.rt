@@ -1,14 +1,14 @@
 //! The frames of the input, one after the other.
 
 ghost use Rattle.std.specs.Prelude.{◌≡◌, [], length, List, IfErr, OnErr, OnOk};
-ghost use Rattle.endpoint_link.specs.Frames.{Frame};
+ghost use Rattle.link_frames.specs.Frames.{Frame};
 ghost use Rattle.mirror_program.specs.Answers.{ReadsAll, Stops};
 ghost use Rattle.mirror_program.specs.Steps.{IsCopyOf, IsTaking};
 
 use crate::statuses::MirrorStatus;
 use dir_mirror::{Mirror, MirrorFault};
-use endpoint_link::{FrameReason, Reading, Side, frame_at};
 use host_io::Source;
+use link_frames::{FrameReason, Reading, Side, frame_at};
 use link_session::{Ended, Input, next_piece};
 
 /// What the frames of a piece led to.

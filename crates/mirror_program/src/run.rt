@@ -1,6 +1,6 @@
 ghost use Rattle.std.specs.Prelude.{◌≡◌, ℕ, List, Some, map, string_bytes};
-ghost use Rattle.endpoint_link.specs.Frames.{Frame};
-ghost use Rattle.endpoint_link.specs.declared.kinds.Mode.{Mode};
+ghost use Rattle.link_frames.specs.Frames.{Frame};
+ghost use Rattle.link_frames.specs.declared.kinds.Mode.{Mode};
 ghost use Rattle.fidl_wire.specs.Names.{AreDistinct};
 ghost use Rattle.session_start.specs.Items.{Lists};
 ghost use Rattle.vfs_journal.specs.Starts.{Bound};

@@ -2,7 +2,7 @@ ghost use Rattle.std.specs.Prelude.{◌≡◌};
 ghost use Rattle.run_status.specs.Notes.{line_of};
 ghost use Rattle.mirror_program.specs.Notes.{exit_of, note_of};
 
-use endpoint_link::FrameReason;
+use link_frames::FrameReason;
 use run_status::Note;
 
 /// How a run of the program ended.

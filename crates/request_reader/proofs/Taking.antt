@@ -6,7 +6,7 @@ use Rattle.fidl_names.specs.declared.methods.Method.{Method}
 use Rattle.fidl_names.specs.declared.methods.Method.TheVariants as method
 use Rattle.fidl_wire.specs.declared.faults.WireFault.{WireFault}
 use Rattle.fidl_wire.specs.Cursor.{Cursor, start_of, start}
-use Rattle.body_reader.specs.Within.{IsPart}
+use Rattle.fidl_wire.specs.Within.{IsPart}
 use Rattle.fidl_wire.specs.Layout.{Item, fields, sizes_of}
 use Rattle.fidl_wire.specs.Numbers.{padded, padding_after}
 use Rattle.fidl_wire.specs.Reading.{◌>>=◌, Step, cells_at, object_items, finish_of}

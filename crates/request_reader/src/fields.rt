@@ -6,9 +6,8 @@ ghost use Rattle.io_messages.specs.Asked.{asked};
 ghost use Rattle.io_messages.specs.Requests.{request_cells, two_names, held_token, IsPartAt, fields_of, fields_told, ArePartsOf};
 ghost use Rattle.request_reader.specs.Steps.{asked_at, Begins, IsBefore};
 
-use body_reader::Body;
 use fidl_names::{Handle, Method};
-use fidl_wire::WireFault;
+use fidl_wire::{Body, WireFault};
 use io_messages::Request;
 
 /// The fields of a method's request, or their first fault.

@@ -6,9 +6,8 @@ ghost use Rattle.io_messages.specs.Asked.{Asked, asked, read, read_at};
 ghost use Rattle.io_messages.specs.Requests.{fields_of, request_of};
 ghost use Rattle.request_reader.specs.Parts.{AsksPart};
 
-use body_reader::Body;
 use fidl_names::Method;
-use fidl_wire::{Header, Ordinals};
+use fidl_wire::{Body, Header, Ordinals};
 use io_messages::{Protocol, Request};
 
 /// The request of a message without handles that asks a file for a part of its bytes, a Read or a

@@ -1,7 +1,7 @@
 -- What a status says: its exit number, and its note.
 use Rattle.std.specs.Prelude.{ℕ, List, [], ◌++◌, codes, decimal}
-use Rattle.endpoint_link.specs.declared.kinds.FrameReason.{FrameReason}
-use Rattle.endpoint_link.specs.declared.kinds.FrameReason.TheVariants as reason
+use Rattle.link_frames.specs.declared.kinds.FrameReason.{FrameReason}
+use Rattle.link_frames.specs.declared.kinds.FrameReason.TheVariants as reason
 use Rattle.run_status.specs.declared.notes.Note.{Note}
 use Rattle.run_status.specs.declared.notes.Note.TheVariants as note
 use Rattle.run_status.specs.declared.statuses.Status.{Status}

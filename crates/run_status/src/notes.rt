@@ -6,9 +6,9 @@ ghost use Rattle.run_status.specs.Texts.{Tells, Writes};
 
 use crate::statuses::Status;
 use crate::texts::pass_on;
-use endpoint_link::FrameReason;
 use host_io::{Failed, Sink, write_whole};
 use itoa::Buffer;
+use link_frames::FrameReason;
 
 /// A note of any program, by its form. Numbers are written in decimal.
 pub enum Note {

@@ -1,7 +1,7 @@
 ghost use Rattle.std.specs.Prelude.{◌≡◌};
 ghost use Rattle.run_status.specs.Notes.{exit_of};
 
-use endpoint_link::FrameReason;
+use link_frames::FrameReason;
 
 /// How a run of the program ended.
 #[derive(Clone, Copy)]

@@ -1,7 +1,7 @@
 // Texts that a command writes as one.
 
 ghost use Rattle.std.specs.Prelude.{◌≡◌, ◌++◌, OnOk, OnErr, decimal};
-ghost use Rattle.endpoint_link.specs.Fronts.{Begins};
+ghost use Rattle.link_frames.specs.Fronts.{Begins};
 ghost use Rattle.run_status.specs.Outside.{sink_told};
 ghost use Rattle.run_status.specs.Texts.{Writes};
 

@@ -3,12 +3,12 @@ use Rattle.std.proofs.Common.{◌≡◌, ◌≤◌, ◌<◌, ◌+◌, ℕ, List,
 use Rattle.std.specs.Prelude.{All}
 use Rattle.std.proofs.Math.Seq.{drop-append_seam}
 use Rattle.std.proofs.lemmas.List.Elements.{All-drop}
-use Rattle.endpoint_link.specs.Frames.{Frame, IsFrame, spelling, spellings}
-use Rattle.endpoint_link.specs.Views.{IsWholeFront, Reads}
-use Rattle.endpoint_link.specs.declared.frame.Reading.{Reading}
-use Rattle.endpoint_link.specs.declared.frame.Reading.TheVariants as reading
-use Rattle.endpoint_link.specs.declared.kinds.Side.{Side}
-use Rattle.endpoint_link.proofs.Streams.{spelling-long}
+use Rattle.link_frames.specs.Frames.{Frame, IsFrame, spelling, spellings}
+use Rattle.link_frames.specs.Views.{IsWholeFront, Reads}
+use Rattle.link_frames.specs.declared.frame.Reading.{Reading}
+use Rattle.link_frames.specs.declared.frame.Reading.TheVariants as reading
+use Rattle.link_frames.specs.declared.kinds.Side.{Side}
+use Rattle.link_frames.proofs.Streams.{spelling-long}
 use Rattle.script_session.proofs.Fronts.{all_read, first_is}
 
 -- so many of all frames are read, of which this holds, and the bytes that are left spell the others

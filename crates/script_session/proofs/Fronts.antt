@@ -2,13 +2,13 @@
 use Rattle.std.proofs.Common.{◌≡◌, ℕ, ◌<◌, ◌≤◌, List, [], ◌∷◌, ◌++◌, length, drop, refl, sym, ap, ◌∙◌, subst, arith, length-append, append-nil}
 use Rattle.std.specs.Prelude.{All}
 use Rattle.std.proofs.lemmas.List.Elements.{All-head, All-tail}
-use Rattle.endpoint_link.specs.declared.frame.Reading.{Reading}
-use Rattle.endpoint_link.specs.declared.frame.Reading.TheVariants as reading
-use Rattle.endpoint_link.specs.declared.kinds.Side.{Side}
-use Rattle.endpoint_link.specs.Frames.{Frame, IsFrame, spelling, spellings}
-use Rattle.endpoint_link.specs.Views.{IsWholeFront, Reads}
-use Rattle.endpoint_link.proofs.Spelled.{spelling-injective}
-use Rattle.endpoint_link.proofs.Streams.{NoFront, bad_no_front, partial_no_front, spelling-long}
+use Rattle.link_frames.specs.declared.frame.Reading.{Reading}
+use Rattle.link_frames.specs.declared.frame.Reading.TheVariants as reading
+use Rattle.link_frames.specs.declared.kinds.Side.{Side}
+use Rattle.link_frames.specs.Frames.{Frame, IsFrame, spelling, spellings}
+use Rattle.link_frames.specs.Views.{IsWholeFront, Reads}
+use Rattle.link_frames.proofs.Spelled.{spelling-injective}
+use Rattle.link_frames.proofs.Streams.{NoFront, bad_no_front, partial_no_front, spelling-long}
 
 -- the frame in front is the first of those that are left
 pub record IsFirst (s : Side) (left : List Frame) (b : List ℕ) (f : Frame) (n : ℕ) : Type 0 where

@@ -10,9 +10,9 @@ use Rattle.fidl_wire.specs.declared.headers.Header.{Header}
 use Rattle.fidl_wire.specs.Epitaphs.{is_epitaph}
 use Rattle.fidl_wire.specs.Headers.{header_of}
 use Rattle.fidl_wire.specs.Names.{event_ordinal}
-use Rattle.endpoint_link.specs.declared.kinds.FrameKind.{FrameKind}
-use Rattle.endpoint_link.specs.declared.kinds.FrameKind.TheVariants as kind
-use Rattle.endpoint_link.specs.Frames.{Frame}
+use Rattle.link_frames.specs.declared.kinds.FrameKind.{FrameKind}
+use Rattle.link_frames.specs.declared.kinds.FrameKind.TheVariants as kind
+use Rattle.link_frames.specs.Frames.{Frame}
 use Rattle.io_client.specs.Calls.{Calls, answered_at, call_at, is_waiting, is_watched}
 use Rattle.io_replies.specs.Reading.{event_of}
 use Rattle.io_client.specs.Taking.{by_call, by_header, calls_behind, calls_behind_message, told_event}

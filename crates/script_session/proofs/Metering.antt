@@ -3,9 +3,9 @@ use Rattle.std.proofs.Common.{◌≡◌, ℕ, List, [], ◌∷◌, ◌++◌, Res
 use Rattle.std.specs.Prelude.{All}
 use Rattle.std.proofs.lemmas.List.{length-map}
 use Rattle.std.proofs.lemmas.List.Concat.{flat_map-append}
-use Rattle.endpoint_link.specs.Frames.{Frame, IsFrame, spelling, spellings}
-use Rattle.endpoint_link.specs.declared.kinds.Mode.{Mode}
-use Rattle.endpoint_link.specs.declared.kinds.Side.TheVariants as side
+use Rattle.link_frames.specs.Frames.{Frame, IsFrame, spelling, spellings}
+use Rattle.link_frames.specs.declared.kinds.Mode.{Mode}
+use Rattle.link_frames.specs.declared.kinds.Side.TheVariants as side
 use Rattle.fidl_names.specs.Numbers.{AreBytes}
 use Rattle.fidl_wire.specs.Names.{AreDistinct}
 use Rattle.vfs_journal.specs.Entries.{Journal}

@@ -4,12 +4,12 @@ use Rattle.std.specs.Prelude.{All}
 use Rattle.std.proofs.Math.Seq.{drop-append_seam}
 use Rattle.std.proofs.lemmas.List.{take_all}
 use Rattle.std.proofs.lemmas.List.Elements.{All-drop}
-use Rattle.endpoint_link.specs.Frames.{Frame, IsFrame, spelling, spellings}
-use Rattle.endpoint_link.specs.Views.{IsWholeFront, Reads}
-use Rattle.endpoint_link.specs.declared.frame.Reading.{Reading}
-use Rattle.endpoint_link.specs.declared.frame.Reading.TheVariants as reading
-use Rattle.endpoint_link.specs.declared.kinds.Side.TheVariants as side
-use Rattle.endpoint_link.proofs.Streams.{spelling-long}
+use Rattle.link_frames.specs.Frames.{Frame, IsFrame, spelling, spellings}
+use Rattle.link_frames.specs.Views.{IsWholeFront, Reads}
+use Rattle.link_frames.specs.declared.frame.Reading.{Reading}
+use Rattle.link_frames.specs.declared.frame.Reading.TheVariants as reading
+use Rattle.link_frames.specs.declared.kinds.Side.TheVariants as side
+use Rattle.link_frames.proofs.Streams.{spelling-long}
 use Rattle.host_io.specs.Streams.{AppendsPart}
 use Rattle.io_client.specs.Calls.{Calls}
 use Rattle.vfs_script.specs.Transcripts.{frame_line}

@@ -5,13 +5,13 @@ use Rattle.std.specs.FinMap.{get-empty, len-empty}
 use Rattle.std.proofs.lemmas.List.{length-map, take_all}
 use Rattle.std.proofs.lemmas.List.Elements.{All-from_get_or, All-head, All-tail}
 use Rattle.fidl_names.specs.Numbers.{AreBytes}
-use Rattle.endpoint_link.proofs.Spelled.{spelling-injective}
-use Rattle.endpoint_link.proofs.Streams.{bad_no_front, partial_no_front}
-use Rattle.endpoint_link.specs.Frames.{Frame, IsFrame, spelling, spellings}
-use Rattle.endpoint_link.specs.Views.{IsWholeFront, Reads}
-use Rattle.endpoint_link.specs.declared.frame.Reading.{Reading}
-use Rattle.endpoint_link.specs.declared.frame.Reading.TheVariants as reading
-use Rattle.endpoint_link.specs.declared.kinds.Side.TheVariants as side
+use Rattle.link_frames.proofs.Spelled.{spelling-injective}
+use Rattle.link_frames.proofs.Streams.{bad_no_front, partial_no_front}
+use Rattle.link_frames.specs.Frames.{Frame, IsFrame, spelling, spellings}
+use Rattle.link_frames.specs.Views.{IsWholeFront, Reads}
+use Rattle.link_frames.specs.declared.frame.Reading.{Reading}
+use Rattle.link_frames.specs.declared.frame.Reading.TheVariants as reading
+use Rattle.link_frames.specs.declared.kinds.Side.TheVariants as side
 use Rattle.fidl_names.specs.declared.methods.Method.{Method}
 use Rattle.io_client.specs.Calls.{Calls, call_at, call_cmp, is_waiting, none_yet}
 use Rattle.vfs_script.specs.Noting.{IsFree}
@@ -22,7 +22,7 @@ use Rattle.vfs_script.specs.declared.calls.Call.{Call}
 use Rattle.script_session.specs.Answering.{one_of}
 use Rattle.script_session.specs.Telling.{IsOver, IsTold, IsWithin, last_of}
 use Rattle.script_session.specs.Transcript.{lines_of}
-use Rattle.endpoint_link.specs.declared.kinds.Mode.{Mode}
+use Rattle.link_frames.specs.declared.kinds.Mode.{Mode}
 use Rattle.vfs_journal.specs.Starts.{Start}
 use Rattle.vfs_world.specs.World.{World}
 use Rattle.script_session.specs.Playing.{Played, not_yet, play_line, play_lines}

@@ -7,9 +7,9 @@ use Rattle.fidl_wire.specs.declared.headers.Header.{Header}
 use Rattle.fidl_wire.specs.Epitaphs.{is_epitaph}
 use Rattle.fidl_wire.specs.Headers.{header_of}
 use Rattle.fidl_wire.specs.Names.{event_ordinal}
-use Rattle.endpoint_link.specs.declared.kinds.FrameKind.{FrameKind}
-use Rattle.endpoint_link.specs.declared.kinds.FrameKind.TheVariants as kind
-use Rattle.endpoint_link.specs.Frames.{Frame}
+use Rattle.link_frames.specs.declared.kinds.FrameKind.{FrameKind}
+use Rattle.link_frames.specs.declared.kinds.FrameKind.TheVariants as kind
+use Rattle.link_frames.specs.Frames.{Frame}
 use Rattle.vfs_script.specs.declared.calls.Call.{Call}
 
 -- a frame of the script is sent, with the call that it makes, if any; or a frame comes back

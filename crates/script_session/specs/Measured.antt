@@ -1,7 +1,7 @@
 -- What is told of the output of a script that is played.
 use Rattle.std.specs.Prelude.{◌≡◌, ℕ, List, length}
-use Rattle.endpoint_link.specs.declared.kinds.Mode.{Mode}
-use Rattle.endpoint_link.specs.Frames.{Frame, spellings}
+use Rattle.link_frames.specs.declared.kinds.Mode.{Mode}
+use Rattle.link_frames.specs.Frames.{Frame, spellings}
 use Rattle.sha2.specs.Sha256.{sha256}
 use Rattle.vfs_journal.specs.Session.{ended}
 use Rattle.vfs_journal.specs.Starts.{Start}

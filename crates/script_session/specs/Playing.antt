@@ -1,7 +1,7 @@
 -- A script that is played over a start, line by line, and its transcript.
 use Rattle.std.specs.Prelude.{ℕ, List, [], ◌∷◌, length, drop, fold}
-use Rattle.endpoint_link.specs.declared.kinds.Mode.{Mode}
-use Rattle.endpoint_link.specs.Frames.{Frame}
+use Rattle.link_frames.specs.declared.kinds.Mode.{Mode}
+use Rattle.link_frames.specs.Frames.{Frame}
 use Rattle.vfs_journal.specs.Entries.{Journal}
 use Rattle.vfs_journal.specs.Output.{frames_behind}
 use Rattle.vfs_journal.specs.Session.{drained, steps}

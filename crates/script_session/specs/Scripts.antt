@@ -1,8 +1,8 @@
 -- What a script's file is for a command.
 use Rattle.std.specs.Prelude.{◌≡◌, ℕ, All, List, Some, None}
-use Rattle.endpoint_link.specs.Frames.{IsFrame}
-use Rattle.endpoint_link.specs.declared.kinds.Mode.{Mode}
-use Rattle.endpoint_link.specs.declared.kinds.Side.TheVariants.{ToServers}
+use Rattle.link_frames.specs.Frames.{IsFrame}
+use Rattle.link_frames.specs.declared.kinds.Mode.{Mode}
+use Rattle.link_frames.specs.declared.kinds.Side.TheVariants.{ToServers}
 use Rattle.fidl_names.specs.declared.limits.TheConstants as limit
 use Rattle.host_io.specs.Told.{Told}
 use Rattle.vfs_script.specs.Scripts.{bad_line, frames_of, script_mode}

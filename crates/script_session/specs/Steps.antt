@@ -1,6 +1,6 @@
 -- Words of the steps in which a script is played; and of what text a script is.
 use Rattle.std.specs.Prelude.{◌≡◌, ℕ, List, Some}
-use Rattle.endpoint_link.specs.Frames.{spellings}
+use Rattle.link_frames.specs.Frames.{spellings}
 use Rattle.fidl_wire.specs.Names.{AreDistinct}
 use Rattle.io_client.specs.Calls.{Calls}
 use Rattle.vfs_journal.specs.Starts.{Start}

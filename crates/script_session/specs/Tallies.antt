@@ -1,6 +1,6 @@
 -- A tally of frames that is kept while they come.
 use Rattle.std.specs.Prelude.{◌≡◌, List, length}
-use Rattle.endpoint_link.specs.Frames.{Frame, spellings}
+use Rattle.link_frames.specs.Frames.{Frame, spellings}
 use Rattle.fidl_wire.specs.Names.{AreDistinct}
 use Rattle.sha2.specs.Hashers.{Holds256}
 use Rattle.vfs_journal.specs.Entries.{Journal}

@@ -1,6 +1,6 @@
 -- The text of a transcript.
 use Rattle.std.specs.Prelude.{ℕ, List, [], ◌∷◌, ◌++◌}
-use Rattle.endpoint_link.specs.Frames.{Frame}
+use Rattle.link_frames.specs.Frames.{Frame}
 use Rattle.vfs_script.specs.Transcripts.{counts_line, frame_line}
 use Rattle.script_session.specs.Answering.{Past, sends, gets, count_answers, count_calls}
 

@@ -2,9 +2,9 @@
 use Rattle.std.specs.Prelude.{◌≡◌, ℕ, All, List, ◌++◌, length, codes, decimal}
 use Rattle.hex.specs.Hex.{encode_lower}
 use Rattle.sha2.specs.Sha256.{sha256}
-use Rattle.endpoint_link.specs.Frames.{Frame, IsFrame, spellings}
-use Rattle.endpoint_link.specs.declared.kinds.Mode.TheVariants.{Auto}
-use Rattle.endpoint_link.specs.declared.kinds.Side.TheVariants.{ToServers}
+use Rattle.link_frames.specs.Frames.{Frame, IsFrame, spellings}
+use Rattle.link_frames.specs.declared.kinds.Mode.TheVariants.{Auto}
+use Rattle.link_frames.specs.declared.kinds.Side.TheVariants.{ToServers}
 use Rattle.script_session.specs.Measured.{Measures, output_frames}
 use Rattle.script_session.specs.declared.measuring.Measured.{Measured}
 use Rattle.tree_file.specs.Generated.{generated_lists}

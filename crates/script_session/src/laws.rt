@@ -2,7 +2,7 @@
 
 ghost use Rattle.std.specs.Prelude.{◌≡◌, ◌++◌, ℕ, List};
 ghost use Rattle.std.specs.List.{flat_map};
-ghost use Rattle.endpoint_link.specs.declared.kinds.Mode.{Mode};
+ghost use Rattle.link_frames.specs.declared.kinds.Mode.{Mode};
 ghost use Rattle.vfs_journal.specs.Session.{ended};
 ghost use Rattle.vfs_journal.specs.Starts.{Start};
 ghost use Rattle.vfs_script.specs.Scripts.{calls_of, count_calls, frames_of, script_lines};

@@ -1,7 +1,7 @@
 ghost use Rattle.std.specs.Prelude.{◌≡◌, ℕ, List, All, IfOk, length};
-ghost use Rattle.endpoint_link.specs.Frames.{IsFrame};
-ghost use Rattle.endpoint_link.specs.declared.kinds.Mode.TheVariants as mode;
-ghost use Rattle.endpoint_link.specs.declared.kinds.Side.TheVariants as side;
+ghost use Rattle.link_frames.specs.Frames.{IsFrame};
+ghost use Rattle.link_frames.specs.declared.kinds.Mode.TheVariants as mode;
+ghost use Rattle.link_frames.specs.declared.kinds.Side.TheVariants as side;
 ghost use Rattle.script_session.specs.Measured.{output_frames};
 ghost use Rattle.script_session.specs.Steps.{IsScript};
 ghost use Rattle.vfs_journal.specs.Starts.{start_of};

@@ -1,8 +1,8 @@
 //! The output of a script, told by its size and its hash.
 
 ghost use Rattle.std.specs.Prelude.{◌≡◌, ℕ, List, All, IfOk};
-ghost use Rattle.endpoint_link.specs.Frames.{IsFrame};
-ghost use Rattle.endpoint_link.specs.declared.kinds.Side.TheVariants as side;
+ghost use Rattle.link_frames.specs.Frames.{IsFrame};
+ghost use Rattle.link_frames.specs.declared.kinds.Side.TheVariants as side;
 ghost use Rattle.vfs_journal.specs.Starts.{start_of};
 ghost use Rattle.vfs_script.specs.Scripts.{frames_of};
 ghost use Rattle.script_session.specs.Measured.{Measures, output_frames};

@@ -1,9 +1,9 @@
 //! A session whose output is tallied.
 
 ghost use Rattle.std.specs.Prelude.{◌≡◌, ◌<◌, ◌≤◌, ◌+◌, ◌*◌, ◌^◌, ℕ, List, [], IfOk, OnOk, length};
-ghost use Rattle.endpoint_link.specs.Frames.{IsFrame};
-ghost use Rattle.endpoint_link.specs.Views.{frame_of};
-ghost use Rattle.endpoint_link.specs.declared.kinds.Side.TheVariants as side;
+ghost use Rattle.link_frames.specs.Frames.{IsFrame};
+ghost use Rattle.link_frames.specs.Views.{frame_of};
+ghost use Rattle.link_frames.specs.declared.kinds.Side.TheVariants as side;
 ghost use Rattle.vfs_journal.specs.Entries.{Journal};
 ghost use Rattle.vfs_journal.specs.Output.{frames_behind};
 ghost use Rattle.vfs_journal.specs.Session.{drained, session, steps};
@@ -16,9 +16,9 @@ ghost use Rattle.script_session.specs.Tallies.{Metered, Tallies};
 
 use crate::measuring::Measured;
 use crate::tally::Tally;
-use endpoint_link::{FrameView, Mode, Outbox, Reading, Side, frame_at};
 use fidl_names::{MAX_FRAMES, NoMemory};
 use fidl_wire::Ordinals;
+use link_frames::{FrameView, Mode, Outbox, Reading, Side, frame_at};
 use session_start::Start;
 use std::alloc::Global;
 use vfs_script::Script;

@@ -2,9 +2,9 @@
 
 ghost use Rattle.std.specs.Prelude.{◌≡◌, ◌<◌, ◌+◌, ℕ, List, Option, Some, [], All, IfOk, OnOk, OnErr, length, slice_get};
 ghost use Rattle.std.specs.Io.KnownBytes.{Appends};
-ghost use Rattle.endpoint_link.specs.Frames.{IsFrame};
-ghost use Rattle.endpoint_link.specs.Views.{frame_of};
-ghost use Rattle.endpoint_link.specs.declared.kinds.Side.TheVariants as side;
+ghost use Rattle.link_frames.specs.Frames.{IsFrame};
+ghost use Rattle.link_frames.specs.Views.{frame_of};
+ghost use Rattle.link_frames.specs.declared.kinds.Side.TheVariants as side;
 ghost use Rattle.host_io.specs.Streams.{AppendsPart, IsFlushed};
 ghost use Rattle.io_client.specs.Calls.{none_yet};
 ghost use Rattle.session_start.specs.Accepted.{HasFilesOfBytes};
@@ -21,10 +21,10 @@ ghost use Rattle.script_session.specs.Steps.{IsScript, Plays};
 
 use crate::faults::TranscriptFault;
 use crate::scribe::Scribe;
-use endpoint_link::{FrameView, Mode, Outbox, Reading, Side, frame_at};
 use fidl_names::{MAX_FRAMES, NoMemory};
 use fidl_wire::Ordinals;
 use host_io::Sink;
+use link_frames::{FrameView, Mode, Outbox, Reading, Side, frame_at};
 use session_start::Start;
 use std::alloc::Global;
 use vfs_script::Script;

@@ -3,9 +3,9 @@
 ghost use Rattle.std.specs.Prelude.{◌≡◌, ◌≤◌, ◌<◌, ◌+◌, ◌++◌, ℕ, List, Option, Some, [], ◌∷◌, IfOk, OnOk, OnErr, All, length, slice_get};
 ghost use Rattle.std.specs.FinMap as finite;
 ghost use Rattle.std.specs.Io.KnownBytes.{Appends};
-ghost use Rattle.endpoint_link.specs.Frames.{Frame, IsFrame, spellings};
-ghost use Rattle.endpoint_link.specs.Views.{frame_of};
-ghost use Rattle.endpoint_link.specs.declared.kinds.Side.TheVariants as side;
+ghost use Rattle.link_frames.specs.Frames.{Frame, IsFrame, spellings};
+ghost use Rattle.link_frames.specs.Views.{frame_of};
+ghost use Rattle.link_frames.specs.declared.kinds.Side.TheVariants as side;
 ghost use Rattle.host_io.specs.Causes.{HasCause};
 ghost use Rattle.host_io.specs.Streams.{AppendsPart, IsFlushed};
 ghost use Rattle.io_client.specs.Calls.{none_yet};
@@ -17,11 +17,11 @@ ghost use Rattle.script_session.specs.Telling.{HasSinkCause, IsOver, IsTold, IsW
 ghost use Rattle.script_session.specs.Transcript.{lines_of, text_of, with_frames};
 
 use crate::faults::TranscriptFault;
-use endpoint_link::{FrameKind, FrameView, Reading, Side, frame_at};
 use fidl_names::{MAX_PIECE, NoMemory};
 use fidl_wire::Ordinals;
 use host_io::{Failed, Sink, write_whole};
 use io_client::Client;
+use link_frames::{FrameKind, FrameView, Reading, Side, frame_at};
 use run_status::pass_on;
 use std::alloc::Global;
 use std::marker::Model;

@@ -1,13 +1,13 @@
 //! A tally of frames: how many there are, how many bytes they have, and the hash of these.
 
 ghost use Rattle.std.specs.Prelude.{◌≡◌, ◌≤◌, ◌<◌, ◌+◌, ◌++◌, ◌^◌, [], List, All, length};
-ghost use Rattle.endpoint_link.specs.Frames.{Frame, IsFrame, spellings};
-ghost use Rattle.endpoint_link.specs.declared.kinds.Side.TheVariants as side;
+ghost use Rattle.link_frames.specs.Frames.{Frame, IsFrame, spellings};
+ghost use Rattle.link_frames.specs.declared.kinds.Side.TheVariants as side;
 ghost use Rattle.script_session.specs.Measured.{Measures};
 ghost use Rattle.script_session.specs.Tallies.{Tallies};
 
 use crate::measuring::Measured;
-use endpoint_link::{Reading, Side, frame_at};
+use link_frames::{Reading, Side, frame_at};
 use sha2::{Digest, Sha256};
 
 /// The frames that came so far.

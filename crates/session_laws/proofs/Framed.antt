@@ -1,8 +1,8 @@
 -- Which replies there are among the frames of an outcome.
 use Rattle.std.proofs.Common.{◌≡◌, ℕ, ◌==◌, ◌&&◌, ◌⊎◌, ◌<◌, ◌^◌, ◌∙◌, Bool, true, false, not, cond, List, [], ◌∷◌, ◌++◌, filter, map, Option, Ok, Err, refl, sym, ap, subst, inl, inr, append_assoc, eq-eqb, lit<}
 use Rattle.byteorder.specs.Numbers.{little_number-reads_back}
-use Rattle.endpoint_link.specs.declared.kinds.FrameKind.TheVariants as kind
-use Rattle.endpoint_link.specs.Frames.{Frame, frame_with}
+use Rattle.link_frames.specs.declared.kinds.FrameKind.TheVariants as kind
+use Rattle.link_frames.specs.Frames.{Frame, frame_with}
 use Rattle.fidl_names.specs.HandleNumber.{handle_with, number_of_handle}
 use Rattle.fidl_names.specs.Numbers.{number_at, number_bytes}
 use Rattle.fidl_names.specs.StatusNumber.{number_of}

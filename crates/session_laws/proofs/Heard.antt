@@ -7,7 +7,7 @@ use Rattle.io_messages.specs.declared.requests.RequestFault.TheVariants.{Malform
 use Rattle.io_rights.specs.Operations.{none}
 use Rattle.node_graph.specs.Tree.{stay}
 use Rattle.fidl_names.specs.HandleNumber.{end_of_mount}
-use Rattle.remote_forward.specs.Onward.{onward_bytes}
+use Rattle.conn_rules.specs.Onward.{onward_bytes}
 use Rattle.conn_rules.specs.Answers.{Answer, replies, closes, binds, watches, forwards, refuses, ends, hangs_up, silent}
 use Rattle.conn_rules.specs.Births.{Birth}
 use Rattle.vfs_journal.specs.Entries.{Sending, message, hang_up}

@@ -7,7 +7,7 @@ use Rattle.std.specs.FinMap as finite
 use Rattle.std.proofs.lemmas.Bool.{eqb-false, false_from_ne_true, not-true, or_parts, true≢false}
 use Rattle.std.proofs.lemmas.List.{append-nil, get_or-set_other, get_or-set_same}
 use Rattle.std.proofs.lemmas.List.Elements.{All-contains, All-filter, All-head, All-map, All-nil, All-tail, All-weaker, Contains-append_cases}
-use Rattle.endpoint_link.specs.Numbering.{among}
+use Rattle.link_admission.specs.Numbering.{among}
 use Rattle.node_graph.specs.Tree.{Tree, after, bare_tree, edge_cmp, names_in, stay}
 use Rattle.path_walk.specs.Names.{IsName, dot}
 use Rattle.path_walk.proofs.NameLemmas.{dot_is_no_name}

@@ -5,7 +5,7 @@ use Rattle.std.specs.Option.{option_map_or}
 use Rattle.std.specs.Prelude.{IsTrue}
 use Rattle.std.proofs.lemmas.Bool.{eq-eqb, eqb-true}
 use Rattle.std.proofs.lemmas.List.Elements.{All-nil, All-cons, Contains-append_cases, All-contains}
-use Rattle.endpoint_link.specs.declared.kinds.Refusal.{Refusal}
+use Rattle.link_frames.specs.declared.kinds.Refusal.{Refusal}
 use Rattle.io_rights.specs.Operations.{OperationSet, is_within}
 use Rattle.io_flags.proofs.GrantLemmas.{within_self}
 use Rattle.vfs_journal.specs.Entries.{Sent, sends, refuses}

@@ -13,7 +13,7 @@ use Rattle.io_messages.specs.declared.protocols.Protocol.TheVariants as protocol
 use Rattle.io_flags.proofs.GrantLemmas.{within_self}
 use Rattle.io_rights.specs.Operations.{OperationSet, is_within}
 use Rattle.path_walk.specs.Paths.{text_of}
-use Rattle.remote_forward.specs.Onward.{onward_bytes}
+use Rattle.conn_rules.specs.Onward.{onward_bytes}
 use Rattle.vfs_journal.specs.Entries.{Sent, Sending, Journal, message, hang_up, serves}
 use Rattle.vfs_journal.specs.History.{all_sent, births, bound_at, is_dead, living, serves_place, trees_of, was_served}
 use Rattle.vfs_journal.specs.Lawful.{Lawful}

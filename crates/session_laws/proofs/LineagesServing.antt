@@ -7,7 +7,7 @@ use Rattle.io_messages.specs.Asked as asks
 use Rattle.io_messages.specs.declared.protocols.Protocol.TheVariants as protocol
 use Rattle.io_rights.specs.Operations.{OperationSet}
 use Rattle.path_walk.specs.Paths.{IsPath, names_of, text_of}
-use Rattle.remote_forward.specs.Onward.{onward_bytes}
+use Rattle.conn_rules.specs.Onward.{onward_bytes}
 use Rattle.conn_rules.specs.Walks.{limit_of}
 use Rattle.vfs_journal.specs.Entries.{Sent, message}
 use Rattle.vfs_journal.specs.Outcomes.{Forwarded, Outcome, bound_of, forward_of}

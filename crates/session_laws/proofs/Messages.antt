@@ -5,9 +5,9 @@ use Rattle.std.proofs.lemmas.Bool.{or_parts}
 use Rattle.fidl_names.specs.StatusNumber.{number_of}
 use Rattle.fidl_names.specs.declared.methods.Method.TheVariants as method
 use Rattle.fidl_wire.specs.Epitaphs.{epitaph_bytes}
-use Rattle.endpoint_link.specs.declared.kinds.FrameKind.TheVariants as kind
-use Rattle.endpoint_link.specs.Frames.{Frame, frame_with}
-use Rattle.endpoint_link.specs.Numbering.{among}
+use Rattle.link_frames.specs.declared.kinds.FrameKind.TheVariants as kind
+use Rattle.link_frames.specs.Frames.{Frame, frame_with}
+use Rattle.link_admission.specs.Numbering.{among}
 use Rattle.io_messages.specs.Asked.{Asked}
 use Rattle.io_messages.specs.Replies.{done, settled}
 use Rattle.io_messages.specs.ReplyWriting.{event_bytes}

@@ -12,7 +12,7 @@ use Rattle.io_messages.specs.Writing.{plain_header, request_body}
 use Rattle.io_messages.specs.declared.protocols.Protocol.{Protocol}
 use Rattle.io_messages.specs.declared.protocols.Protocol.TheVariants as protocol
 use Rattle.path_walk.specs.Paths.{text_of}
-use Rattle.remote_forward.specs.Onward.{onward_bytes}
+use Rattle.conn_rules.specs.Onward.{onward_bytes}
 use Rattle.vfs_journal.specs.Entries.{Journal, Sending, Sent, message, hang_up}
 use Rattle.vfs_journal.specs.History.{History, bound_at}
 use Rattle.vfs_journal.specs.Outcomes.{Asker, Forwarded, Outcome, forward_of, no_outcome, outcome_with}

@@ -9,7 +9,7 @@ use Rattle.path_walk.specs.Names.{dot}
 use Rattle.watch_events.specs.Events.{AreEvents, Event, bytes_of, event_bytes}
 use Rattle.watch_events.specs.Messages.{asks_for, existing, first_messages, gathered, idle, snapshot, watch_frame}
 use Rattle.watch_events.proofs.Once.{events_once}
-use Rattle.endpoint_link.specs.Frames.{Frame}
+use Rattle.link_frames.specs.Frames.{Frame}
 use Rattle.session_laws.specs.Sight.{AreWritten}
 use Rattle.session_laws.proofs.Named.{all_said, is_existing}
 

@@ -5,8 +5,8 @@ use Rattle.std.specs.Option.{option_map_or}
 use Rattle.std.proofs.lemmas.Bool.{and_parts}
 use Rattle.std.proofs.lemmas.List.{append-nil}
 use Rattle.std.proofs.lemmas.List.Elements.{All-map, Contains-append_left, Contains-append_right, filter-append}
-use Rattle.endpoint_link.specs.Frames.{Frame}
-use Rattle.endpoint_link.specs.Numbering.{among}
+use Rattle.link_frames.specs.Frames.{Frame}
+use Rattle.link_admission.specs.Numbering.{among}
 use Rattle.node_graph.specs.Tree.{Tree, names_in}
 use Rattle.path_walk.specs.Names.{dot}
 use Rattle.conn_rules.specs.Answers.{Act, Answer, Happening, replies, closes, binds, watches, forwards, refuses, ends, hangs_up, silent}

@@ -2,8 +2,8 @@
 use Rattle.std.specs.Prelude.{◌≡◌, ℕ, ◌==◌, ◌&&◌, Bool, not, List, [], ◌∷◌, filter, filter_map, find, reverse, Option}
 use Rattle.std.specs.List.{list_any}
 use Rattle.std.specs.Option.{option_map_or}
-use Rattle.endpoint_link.specs.Frames.{Frame}
-use Rattle.endpoint_link.specs.Numbers.{word_in}
+use Rattle.link_frames.specs.Frames.{Frame}
+use Rattle.link_frames.specs.Numbers.{word_in}
 use Rattle.fidl_names.specs.declared.statuses.Status.{Status}
 use Rattle.vfs_journal.specs.Entries.{Sent, Sending, message, hang_up}
 use Rattle.vfs_journal.specs.History.{Event, History, all_sent, births, is_watcher, served_by, serves_place, was_served}

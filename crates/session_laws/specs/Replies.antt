@@ -1,6 +1,6 @@
 -- Pipelining: a client may send on, and has its replies in the order in which it sent.
 use Rattle.std.specs.Prelude.{◌≡◌, ◌⊎◌, ℕ, true, false, AllPairs, Contains, List, [], ◌++◌, flat_map, Ok, Err}
-use Rattle.endpoint_link.specs.Numbering.{among}
+use Rattle.link_admission.specs.Numbering.{among}
 use Rattle.io_messages.specs.Asked.{Asked, method_of}
 use Rattle.io_messages.specs.declared.requests.RequestFault.TheVariants.{UnknownTwoWay}
 use Rattle.io_messages.specs.Shapes.{is_one_way}

@@ -1,6 +1,6 @@
 -- What a watcher is told, looking back; and what was written on an endpoint.
 use Rattle.std.specs.Prelude.{◌≡◌, ℕ, ◌==◌, ◌&&◌, Bool, if◌then◌else◌, List, [], ◌∷◌, ◌++◌, filter, map}
-use Rattle.endpoint_link.specs.Frames.{Frame}
+use Rattle.link_frames.specs.Frames.{Frame}
 use Rattle.conn_rules.specs.Answers.{Happening}
 use Rattle.watch_events.specs.Events.{AreEvents, Event, bytes_of}
 use Rattle.watch_events.specs.Messages.{asks_for}

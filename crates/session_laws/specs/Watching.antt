@@ -1,6 +1,6 @@
 -- What watchers are told, and what they know by it.
 use Rattle.std.specs.Prelude.{◌≡◌, ◌↔◌, ℕ, true, Contains, IsTrue, List, [], map}
-use Rattle.endpoint_link.specs.Numbering.{among}
+use Rattle.link_admission.specs.Numbering.{among}
 use Rattle.node_graph.specs.Tree.{names_in}
 use Rattle.watch_events.specs.Events.{Event}
 use Rattle.watch_events.specs.Messages.{added, asks_for, existing, removed, watch_frame}

@@ -22,7 +22,7 @@ use Rattle.session_start.specs.RulesOnLists.{Place, node_place, mount_place, fou
 use Rattle.session_start.proofs.Accepted.{passing, rules_kept}
 use Rattle.session_start.proofs.Found.{find_push, enumerate_push, position_none}
 use Rattle.session_start.proofs.Numbers.{at_path}
-use Rattle.session_start.proofs.Places.{found_push, or_none}
+use Rattle.session_start.proofs.OnePlaceMore.{found_push, or_none}
 use Rattle.session_start.proofs.Standing.{kind_below, kind_root}
 use Rattle.session_start.proofs.Trees.{Fits, Grows, bare, more}
 

@@ -5,3 +5,5 @@ pub mod Lent
 pub use Rattle.io_rights.specs.Operations
 pub mod Numbering
 pub mod Sound
+pub mod Places
+pub mod Growing

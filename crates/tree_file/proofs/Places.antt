@@ -20,7 +20,7 @@ use Rattle.tree_file.specs.declared.faults.TreeFault.TheVariants.{Rule}
 use Rattle.tree_file.specs.Faults.{Breaks}
 use Rattle.tree_file.specs.Kept.{Stands, place_cmp}
 use Rattle.path_walk.specs.Parts.{parent_of}
-use Rattle.session_start.proofs.Places.{found_push, or_none}
+use Rattle.session_start.proofs.OnePlaceMore.{found_push, or_none}
 
 is_eq-then : (a b : Ordering) → is_eq (ordering_then a b) ≡ (is_eq a && is_eq b)
 is_eq-then Less b = refl

@@ -1,6 +1,6 @@
 //! As many mounts as endpoints.
+use conn_rules::{MountTarget, Mounts};
 use fidl_names::{FIRST_MOUNT_END, MAX_LIVE};
-use remote_forward::{MountTarget, Mounts};
 use std::test::Fail;
 
 #[test]

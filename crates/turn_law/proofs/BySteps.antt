@@ -1,11 +1,11 @@
 -- The induction over the steps of a journal.
 use Rattle.std.proofs.Common.{◌≡◌, List, [], ◌∷◌, Option, Some, None, refl, sym, ◌∙◌}
-use Rattle.endpoint_link.specs.Admission.{admission}
-use Rattle.endpoint_link.specs.declared.kinds.FrameKind.{FrameKind}
-use Rattle.endpoint_link.specs.declared.kinds.FrameKind.TheVariants as kind
-use Rattle.endpoint_link.specs.declared.kinds.Refusal.{Refusal}
-use Rattle.endpoint_link.specs.declared.kinds.Side.TheVariants.{ToServers}
-use Rattle.endpoint_link.specs.Frames.{Frame, IsFrame}
+use Rattle.link_admission.specs.Admission.{admission}
+use Rattle.link_frames.specs.declared.kinds.FrameKind.{FrameKind}
+use Rattle.link_frames.specs.declared.kinds.FrameKind.TheVariants as kind
+use Rattle.link_frames.specs.declared.kinds.Refusal.{Refusal}
+use Rattle.link_frames.specs.declared.kinds.Side.TheVariants.{ToServers}
+use Rattle.link_frames.specs.Frames.{Frame, IsFrame}
 use Rattle.vfs_journal.specs.Entries.{Journal, Sent, hang_up, message, refuses, sends}
 use Rattle.vfs_journal.specs.Lawful.{Lawful}
 use Rattle.vfs_journal.specs.Past.{history_of}

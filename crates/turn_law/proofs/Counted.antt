@@ -6,9 +6,9 @@ use Rattle.std.proofs.lemmas.Bool.{and_parts, cases_Bool, eqb-false, eqb-true, f
 use Rattle.std.proofs.lemmas.List.Elements.{All-head, All-tail}
 use Rattle.fidl_names.specs.HandleNumber.{is_client}
 use Rattle.wire_laws.specs.Laws.{SpelledWhereRead}
-use Rattle.endpoint_link.specs.declared.kinds.Side.TheVariants.{ToServers}
-use Rattle.endpoint_link.specs.Frames.{Frame, IsFrame}
-use Rattle.endpoint_link.specs.Numbering.{among}
+use Rattle.link_frames.specs.declared.kinds.Side.TheVariants.{ToServers}
+use Rattle.link_frames.specs.Frames.{Frame, IsFrame}
+use Rattle.link_admission.specs.Numbering.{among}
 use Rattle.vfs_journal.specs.Entries.{Sending}
 use Rattle.vfs_journal.specs.Starts.{Start}
 use Rattle.journal_laws.specs.Soundness.{IsStart}

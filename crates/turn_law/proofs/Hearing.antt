@@ -6,11 +6,11 @@ use Rattle.std.proofs.lemmas.Bool.{and_parts, cases_Bool, eq-eqb, eqb-false, eqb
 use Rattle.std.proofs.lemmas.List.Elements.{All-contains, All-head, All-tail, Contains-append_cases}
 use Rattle.fidl_names.specs.HandleNumber.{is_client}
 use Rattle.wire_laws.specs.Laws.{SpelledWhereRead}
-use Rattle.endpoint_link.specs.declared.kinds.FrameKind.{FrameKind}
-use Rattle.endpoint_link.specs.declared.kinds.FrameKind.TheVariants as kind
-use Rattle.endpoint_link.specs.declared.kinds.Side.TheVariants.{ToServers}
-use Rattle.endpoint_link.specs.Frames.{Frame, IsFrame}
-use Rattle.endpoint_link.specs.Numbering.{among}
+use Rattle.link_frames.specs.declared.kinds.FrameKind.{FrameKind}
+use Rattle.link_frames.specs.declared.kinds.FrameKind.TheVariants as kind
+use Rattle.link_frames.specs.declared.kinds.Side.TheVariants.{ToServers}
+use Rattle.link_frames.specs.Frames.{Frame, IsFrame}
+use Rattle.link_admission.specs.Numbering.{among}
 use Rattle.conn_rules.specs.Births.{Position}
 use Rattle.vfs_journal.specs.Entries.{hang_up}
 use Rattle.vfs_journal.specs.Outcomes.{Outcome}

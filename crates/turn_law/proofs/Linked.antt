@@ -6,17 +6,17 @@ use Rattle.std.proofs.lemmas.Bool.{true≢false, false_from_ne_true, eqb-true, a
 use Rattle.std.proofs.lemmas.List.Elements.{All-contains, Contains-append_left, Contains-append_right}
 use Rattle.fidl_names.specs.First.{cause_if, first_of}
 use Rattle.fidl_names.specs.HandleNumber.{is_client}
-use Rattle.endpoint_link.specs.Numbering.{among}
-use Rattle.endpoint_link.specs.declared.kinds.FrameKind.{FrameKind}
-use Rattle.endpoint_link.specs.declared.kinds.FrameKind.TheVariants as kind
-use Rattle.endpoint_link.specs.declared.kinds.Refusal.{Refusal}
-use Rattle.endpoint_link.specs.declared.kinds.Refusal.TheVariants as refusal
-use Rattle.endpoint_link.specs.declared.kinds.Side.TheVariants.{ToServers}
-use Rattle.endpoint_link.specs.declared.kinds.Standing.{Standing}
-use Rattle.endpoint_link.specs.declared.kinds.Standing.TheVariants as standing
-use Rattle.endpoint_link.specs.Frames.{Frame, IsFrame, keeps_shape}
-use Rattle.endpoint_link.specs.Admission.{LookUps, admission, all_may_travel, by_standing, is_full, may_travel, refusal_by, too_many}
-use Rattle.endpoint_link.proofs.Travelling.{unused_by}
+use Rattle.link_admission.specs.Numbering.{among}
+use Rattle.link_frames.specs.declared.kinds.FrameKind.{FrameKind}
+use Rattle.link_frames.specs.declared.kinds.FrameKind.TheVariants as kind
+use Rattle.link_frames.specs.declared.kinds.Refusal.{Refusal}
+use Rattle.link_frames.specs.declared.kinds.Refusal.TheVariants as refusal
+use Rattle.link_frames.specs.declared.kinds.Side.TheVariants.{ToServers}
+use Rattle.link_admission.specs.declared.kinds.Standing.{Standing}
+use Rattle.link_admission.specs.declared.kinds.Standing.TheVariants as standing
+use Rattle.link_frames.specs.Frames.{Frame, IsFrame, keeps_shape}
+use Rattle.link_admission.specs.Admission.{LookUps, admission, all_may_travel, by_standing, is_full, may_travel, refusal_by, too_many}
+use Rattle.link_admission.proofs.Travelling.{unused_by}
 use Rattle.vfs_journal.specs.Entries.{Journal, Sending, Sent, endpoints_in, hang_up, handles_of, is_hang_up, message, refuses, sends}
 use Rattle.vfs_journal.specs.History.{History, all_sent, hung_up, is_bound, is_dead, is_live, is_used, standing_of, travelling, was_carried}
 use Rattle.vfs_journal.specs.Lawful.{Lawful}

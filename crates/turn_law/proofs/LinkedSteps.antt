@@ -5,15 +5,15 @@ use Rattle.std.proofs.lemmas.Bool.{true≢false, false_from_ne_true, eqb-true, e
 use Rattle.std.proofs.lemmas.List.Elements.{All-contains, All-cons, All-head, All-nil, All-tail, Contains-append_cases, Contains-append_right}
 use Rattle.fidl_names.specs.First.{first_of}
 use Rattle.fidl_names.specs.HandleNumber.{is_client}
-use Rattle.endpoint_link.specs.Numbering.{among}
-use Rattle.endpoint_link.specs.declared.kinds.FrameKind.{FrameKind}
-use Rattle.endpoint_link.specs.declared.kinds.FrameKind.TheVariants as kind
-use Rattle.endpoint_link.specs.declared.kinds.Refusal.{Refusal}
-use Rattle.endpoint_link.specs.declared.kinds.Side.TheVariants.{ToServers}
-use Rattle.endpoint_link.specs.declared.kinds.Standing.TheVariants as standing
-use Rattle.endpoint_link.specs.Frames.{Frame, IsFrame}
-use Rattle.endpoint_link.specs.Refusals.{refused_frame}
-use Rattle.endpoint_link.specs.Admission.{LookUps, admission, all_may_travel, by_standing, refusal_by}
+use Rattle.link_admission.specs.Numbering.{among}
+use Rattle.link_frames.specs.declared.kinds.FrameKind.{FrameKind}
+use Rattle.link_frames.specs.declared.kinds.FrameKind.TheVariants as kind
+use Rattle.link_frames.specs.declared.kinds.Refusal.{Refusal}
+use Rattle.link_frames.specs.declared.kinds.Side.TheVariants.{ToServers}
+use Rattle.link_admission.specs.declared.kinds.Standing.TheVariants as standing
+use Rattle.link_frames.specs.Frames.{Frame, IsFrame}
+use Rattle.link_frames.specs.Refusals.{refused_frame}
+use Rattle.link_admission.specs.Admission.{LookUps, admission, all_may_travel, by_standing, refusal_by}
 use Rattle.vfs_journal.specs.Entries.{Entry, Journal, Sent, hang_up, message, refuses, sends, serves}
 use Rattle.vfs_journal.specs.History.{History, all_sent, hung_up, is_dead, is_live, is_used, standing_of}
 use Rattle.vfs_journal.specs.Lawful.{Lawful}

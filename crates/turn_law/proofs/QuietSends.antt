@@ -26,7 +26,7 @@ use Rattle.io_messages.proofs.Known.{method_asked}
 use Rattle.request_reader.proofs.RequestLaws.{what_is_read, what_is_spelled}
 use Rattle.io_rights.specs.Operations.{OperationSet}
 use Rattle.path_walk.specs.Paths.{IsPath, text_of}
-use Rattle.remote_forward.specs.Onward.{onward_bytes}
+use Rattle.conn_rules.specs.Onward.{onward_bytes}
 use Rattle.conn_rules.specs.Answers.{Answer, replies, closes, binds, watches, forwards, refuses, ends, hangs_up, silent, Act}
 use Rattle.vfs_journal.specs.Entries.{Sending, message, hang_up}
 use Rattle.vfs_journal.specs.Outcomes.{Asker, bound_of, outcome_with, token_in, token_of}

@@ -5,8 +5,8 @@ use Rattle.fidl_names.specs.declared.statuses.Status.TheVariants as status
 use Rattle.wire_laws.specs.Laws.{SpelledWhereRead}
 use Rattle.wire_laws.proofs.WrittenEpitaphs.{epitaph_again}
 use Rattle.fidl_wire.specs.Epitaphs.{epitaph_bytes}
-use Rattle.endpoint_link.specs.declared.kinds.FrameKind.TheVariants as kind
-use Rattle.endpoint_link.specs.Frames.{frame_with}
+use Rattle.link_frames.specs.declared.kinds.FrameKind.TheVariants as kind
+use Rattle.link_frames.specs.Frames.{frame_with}
 use Rattle.io_messages.specs.declared.protocols.Protocol.{Protocol}
 use Rattle.io_messages.specs.declared.protocols.Protocol.TheVariants as protocol
 use Rattle.node_graph.specs.Tree.{Tree}

@@ -4,8 +4,8 @@ use Rattle.std.specs.Option.{option_map, option_map_or}
 use Rattle.std.proofs.lemmas.Bool.{eq-eqb, false_from_ne_true, true≢false}
 use Rattle.fidl_names.specs.HandleNumber.{is_client}
 use Rattle.wire_laws.specs.Laws.{SpelledWhereRead}
-use Rattle.endpoint_link.specs.Frames.{Frame}
-use Rattle.endpoint_link.specs.Numbering.{among}
+use Rattle.link_frames.specs.Frames.{Frame}
+use Rattle.link_admission.specs.Numbering.{among}
 use Rattle.conn_rules.specs.Births.{Position}
 use Rattle.vfs_journal.specs.Entries.{Sending, Sent, handles_of}
 use Rattle.vfs_journal.specs.Outcomes.{Outcome}

@@ -1,15 +1,15 @@
 -- Steps make lawful journals, and sessions are made by steps.
 use Rattle.std.proofs.Common.{◌≡◌, ℕ, zero, suc, Bool, true, false, List, [], ◌∷◌, ◌++◌, fold, Option, Some, None, filter, reverse, All, if◌then◌else◌, refl, sym, ap, ◌∙◌, subst, append_assoc, append-nil}
 use Rattle.std.proofs.lemmas.List.Elements.{All-head, All-tail}
-use Rattle.endpoint_link.specs.Admission.{admission}
-use Rattle.endpoint_link.specs.declared.kinds.FrameKind.{FrameKind}
-use Rattle.endpoint_link.specs.declared.kinds.FrameKind.TheVariants as kind
-use Rattle.endpoint_link.specs.declared.kinds.Mode.{Mode}
-use Rattle.endpoint_link.specs.declared.kinds.Mode.TheVariants as mode
-use Rattle.endpoint_link.specs.declared.kinds.Refusal.{Refusal}
-use Rattle.endpoint_link.specs.declared.kinds.Side.TheVariants.{ToServers}
-use Rattle.endpoint_link.specs.Frames.{Frame, IsFrame}
-use Rattle.endpoint_link.specs.Numbers.{word_in}
+use Rattle.link_admission.specs.Admission.{admission}
+use Rattle.link_frames.specs.declared.kinds.FrameKind.{FrameKind}
+use Rattle.link_frames.specs.declared.kinds.FrameKind.TheVariants as kind
+use Rattle.link_frames.specs.declared.kinds.Mode.{Mode}
+use Rattle.link_frames.specs.declared.kinds.Mode.TheVariants as mode
+use Rattle.link_frames.specs.declared.kinds.Refusal.{Refusal}
+use Rattle.link_frames.specs.declared.kinds.Side.TheVariants.{ToServers}
+use Rattle.link_frames.specs.Frames.{Frame, IsFrame}
+use Rattle.link_frames.specs.Numbers.{word_in}
 use Rattle.vfs_journal.specs.Entries.{Journal, Sent}
 use Rattle.vfs_journal.specs.History.{History}
 use Rattle.vfs_journal.specs.Lawful.{Lawful}

@@ -4,8 +4,8 @@ use Rattle.std.proofs.lemmas.Bool.{eqb-true, false_from_ne_true, and_parts, ltb-
 use Rattle.std.proofs.lemmas.List.Elements.{All-cons, All-nil}
 use Rattle.fidl_names.specs.HandleNumber.{end_of_mount, is_client}
 use Rattle.wire_laws.specs.Laws.{SpelledWhereRead}
-use Rattle.endpoint_link.specs.Frames.{Frame}
-use Rattle.endpoint_link.specs.Numbering.{among}
+use Rattle.link_frames.specs.Frames.{Frame}
+use Rattle.link_admission.specs.Numbering.{among}
 use Rattle.io_messages.specs.Asked.{Asked}
 use Rattle.io_messages.specs.Asked as asks
 use Rattle.io_messages.specs.declared.protocols.Protocol.{Protocol}

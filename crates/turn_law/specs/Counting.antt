@@ -2,12 +2,12 @@
 use Rattle.std.specs.Prelude.{◌≡◌, ◌==◌, ◌&&◌, ◌||◌, All, Bool, true, false, not, is_some, ℕ, zero, suc, List, [], ◌∷◌, filter_map, reverse, take, None, if◌then◌else◌}
 use Rattle.std.specs.List.{list_all, list_any}
 use Rattle.fidl_names.specs.HandleNumber.{is_client}
-use Rattle.endpoint_link.specs.Admission.{admission}
-use Rattle.endpoint_link.specs.declared.kinds.FrameKind.{FrameKind}
-use Rattle.endpoint_link.specs.declared.kinds.FrameKind.TheVariants as kind
-use Rattle.endpoint_link.specs.declared.kinds.Side.TheVariants.{ToServers}
-use Rattle.endpoint_link.specs.Frames.{Frame, IsFrame}
-use Rattle.endpoint_link.specs.Numbering.{among}
+use Rattle.link_admission.specs.Admission.{admission}
+use Rattle.link_frames.specs.declared.kinds.FrameKind.{FrameKind}
+use Rattle.link_frames.specs.declared.kinds.FrameKind.TheVariants as kind
+use Rattle.link_frames.specs.declared.kinds.Side.TheVariants.{ToServers}
+use Rattle.link_frames.specs.Frames.{Frame, IsFrame}
+use Rattle.link_admission.specs.Numbering.{among}
 use Rattle.vfs_journal.specs.Entries.{Journal, Sending}
 use Rattle.vfs_journal.specs.History.{History, hung_up, is_live, is_used}
 use Rattle.vfs_journal.specs.Output.{frames_behind}

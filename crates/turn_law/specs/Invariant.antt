@@ -13,8 +13,8 @@
 -- Behind a drain nothing waits and nothing travels, so each endpoint was told what the table says.
 use Rattle.std.specs.Prelude.{◌≡◌, ◌==◌, true, false, ℕ, List, [], ◌∷◌, ◌++◌, filter, filter_map, length, map, reverse, Option, Some, None}
 use Rattle.fidl_names.specs.HandleNumber.{is_client}
-use Rattle.endpoint_link.specs.Frames.{Frame}
-use Rattle.endpoint_link.specs.Numbering.{among}
+use Rattle.link_frames.specs.Frames.{Frame}
+use Rattle.link_admission.specs.Numbering.{among}
 use Rattle.conn_rules.specs.Births.{Position}
 use Rattle.vfs_journal.specs.Entries.{Journal, Sending, Sent}
 use Rattle.vfs_journal.specs.History.{History, bound_at, is_live, position_of, waiting}

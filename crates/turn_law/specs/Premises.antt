@@ -4,10 +4,10 @@ use Rattle.fidl_names.specs.HandleNumber.{handle_with}
 use Rattle.fidl_names.specs.StatusNumber.{number_of}
 use Rattle.fidl_names.specs.declared.statuses.Status.TheVariants as status
 use Rattle.fidl_wire.specs.Epitaphs.{IsEpitaph}
-use Rattle.endpoint_link.specs.declared.kinds.FrameKind.TheVariants as kind
-use Rattle.endpoint_link.specs.declared.kinds.Refusal.TheVariants as refusal
-use Rattle.endpoint_link.specs.Frames.{Frame}
-use Rattle.endpoint_link.specs.Refusals.{refused_frame}
+use Rattle.link_frames.specs.declared.kinds.FrameKind.TheVariants as kind
+use Rattle.link_frames.specs.declared.kinds.Refusal.TheVariants as refusal
+use Rattle.link_frames.specs.Frames.{Frame}
+use Rattle.link_frames.specs.Refusals.{refused_frame}
 use Rattle.io_flags.specs.Words.{creates, has}
 use Rattle.io_flags.specs.declared.names.Flag.TheVariants as flag
 use Rattle.io_messages.specs.Asked.{Asked}

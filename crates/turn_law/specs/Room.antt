@@ -1,6 +1,6 @@
 -- What is in use at a server shows in no answer but a refusal for want of room.
 use Rattle.std.specs.Prelude.{◌≡◌, ◌⊎◌, Contains, List}
-use Rattle.endpoint_link.specs.Frames.{Frame}
+use Rattle.link_frames.specs.Frames.{Frame}
 use Rattle.vfs_journal.specs.Entries.{Sending}
 use Rattle.vfs_journal.specs.History.{tree_at}
 use Rattle.vfs_journal.specs.Serving.{Moment, outcome_of_sending}

@@ -7,14 +7,14 @@ use Rattle.fidl_names.specs.declared.statuses.Status.TheVariants as status
 use Rattle.fidl_names.specs.StatusNumber.{number_of}
 use Rattle.fidl_wire.specs.Epitaphs.{epitaph_bytes}
 use Rattle.fidl_wire.specs.Names.{AreDistinct}
-use Rattle.endpoint_link.specs.Frames.{Frame}
+use Rattle.link_frames.specs.Frames.{Frame}
 use Rattle.io_messages.specs.Asked as asks
 use Rattle.io_messages.specs.Replies.{payload}
 use Rattle.io_messages.specs.ReplyWriting.{event_bytes, reply_bytes}
 use Rattle.io_messages.specs.declared.protocols.Protocol.TheVariants as protocol
 use Rattle.io_rights.specs.Operations.{all}
 use Rattle.path_walk.specs.Paths.{names_of, text_of}
-use Rattle.remote_forward.specs.Onward.{onward_bytes}
+use Rattle.conn_rules.specs.Onward.{onward_bytes}
 use Rattle.conn_rules.specs.Acts.{act_of}
 use Rattle.conn_rules.specs.Answers.{Act, binds, forwards, hangs_up, only, refuses, replies}
 use Rattle.conn_rules.specs.Births.{Position, fresh}

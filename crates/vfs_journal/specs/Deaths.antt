@@ -1,7 +1,7 @@
 -- Which endpoints die of a serving.
 use Rattle.std.specs.Prelude.{ℕ, ◌==◌, ◌||◌, Bool, false, not, if◌then◌else◌, List, [], ◌∷◌, ◌++◌, filter}
 use Rattle.std.specs.Option.{option_map_or}
-use Rattle.endpoint_link.specs.Numbering.{among}
+use Rattle.link_admission.specs.Numbering.{among}
 use Rattle.vfs_journal.specs.Entries.{Sent, endpoints_in}
 use Rattle.vfs_journal.specs.History.{History, waiting}
 use Rattle.vfs_journal.specs.Outcomes.{Outcome}

@@ -1,6 +1,6 @@
 -- The journal of a session: what was sent, served and refused, in order of happening.
 use Rattle.std.specs.Prelude.{ℕ, Bool, true, false, not, List, [], filter, Option}
-use Rattle.endpoint_link.specs.declared.kinds.Refusal.{Refusal}
+use Rattle.link_frames.specs.declared.kinds.Refusal.{Refusal}
 use Rattle.fidl_names.specs.HandleNumber.{is_client}
 
 -- what was sent on an endpoint: a message with the numbers of its handles, or that the client closed it

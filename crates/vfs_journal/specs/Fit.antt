@@ -2,7 +2,7 @@
 use Rattle.std.specs.Prelude.{◌≡◌, ◌≢◌, ◌+◌, ◌<◌, ◌≤◌, ◌==◌, ◌⊎◌, ℕ, true, false, All, AllPairs, Contains, List, flat_map, length, Some}
 use Rattle.std.specs.List.{list_any}
 use Rattle.fidl_names.specs.declared.limits.TheConstants as limit
-use Rattle.endpoint_link.specs.Numbering.{among}
+use Rattle.link_admission.specs.Numbering.{among}
 use Rattle.fidl_names.specs.HandleNumber.{is_client}
 use Rattle.vfs_journal.specs.Entries.{Sent, endpoints_in, handles_of}
 use Rattle.vfs_journal.specs.Outcomes.{Forwarded, Given}

@@ -2,9 +2,9 @@
 use Rattle.std.specs.Prelude.{ℕ, ◌+◌, ◌==◌, ◌&&◌, ◌||◌, Bool, true, false, not, is_some, if◌then◌else◌, List, [], ◌∷◌, ◌++◌, length, filter, filter_map, flat_map, find, reverse, count_by, Option, Some, None, slice_index_or, slice_set}
 use Rattle.std.specs.List.{list_any}
 use Rattle.std.specs.Option.{option_map_or}
-use Rattle.endpoint_link.specs.declared.kinds.Standing.{Standing}
-use Rattle.endpoint_link.specs.declared.kinds.Standing.TheVariants as standing
-use Rattle.endpoint_link.specs.Numbering.{among}
+use Rattle.link_admission.specs.declared.kinds.Standing.{Standing}
+use Rattle.link_admission.specs.declared.kinds.Standing.TheVariants as standing
+use Rattle.link_admission.specs.Numbering.{among}
 use Rattle.io_messages.specs.declared.protocols.Protocol.{Protocol}
 use Rattle.io_messages.specs.declared.protocols.Protocol.TheVariants as protocol
 use Rattle.node_graph.specs.Tree.{Tree, Change, bare_tree, after}

@@ -1,10 +1,10 @@
 -- The journals that frames and servings can make.
 use Rattle.std.specs.Prelude.{◌≡◌, [], ◌∷◌, Some, None}
-use Rattle.endpoint_link.specs.Admission.{admission}
-use Rattle.endpoint_link.specs.declared.kinds.Refusal.{Refusal}
-use Rattle.endpoint_link.specs.declared.kinds.Side.TheVariants.{ToServers}
-use Rattle.endpoint_link.specs.declared.kinds.FrameKind.TheVariants as kind
-use Rattle.endpoint_link.specs.Frames.{Frame, IsFrame}
+use Rattle.link_admission.specs.Admission.{admission}
+use Rattle.link_frames.specs.declared.kinds.Refusal.{Refusal}
+use Rattle.link_frames.specs.declared.kinds.Side.TheVariants.{ToServers}
+use Rattle.link_frames.specs.declared.kinds.FrameKind.TheVariants as kind
+use Rattle.link_frames.specs.Frames.{Frame, IsFrame}
 use Rattle.vfs_journal.specs.Entries.{Sent, Journal, message, hang_up, sends, refuses}
 use Rattle.vfs_journal.specs.Past.{history_of}
 use Rattle.vfs_journal.specs.Session.{head, look_ups, sent_behind, after_serving}

@@ -4,8 +4,8 @@ use Rattle.fidl_names.specs.declared.methods.Method.TheVariants as method
 use Rattle.fidl_names.specs.declared.statuses.Status.{Status}
 use Rattle.fidl_names.specs.StatusNumber.{number_of}
 use Rattle.fidl_wire.specs.Epitaphs.{epitaph_bytes}
-use Rattle.endpoint_link.specs.Frames.{Frame, frame_with}
-use Rattle.endpoint_link.specs.declared.kinds.FrameKind.TheVariants as kind
+use Rattle.link_frames.specs.Frames.{Frame, frame_with}
+use Rattle.link_frames.specs.declared.kinds.FrameKind.TheVariants as kind
 use Rattle.io_messages.specs.declared.protocols.Protocol.{Protocol}
 use Rattle.io_messages.specs.declared.protocols.Protocol.TheVariants as protocol
 use Rattle.io_messages.specs.Replies.{Answered, done, settled}
@@ -14,7 +14,7 @@ use Rattle.io_messages.specs.ReplyWriting.{reply_bytes, reply_handles, event_byt
 use Rattle.fidl_names.specs.HandleNumber.{number_of_handle, end_of_mount}
 use Rattle.io_rights.specs.Operations.{none}
 use Rattle.node_graph.specs.Tree.{Change, stay}
-use Rattle.remote_forward.specs.Onward.{onward_bytes}
+use Rattle.conn_rules.specs.Onward.{onward_bytes}
 use Rattle.conn_rules.specs.Answers.{Answer, replies, closes, binds, watches, forwards, refuses, ends, hangs_up, silent, Happening, nothing_told, Act}
 use Rattle.conn_rules.specs.Births.{Birth, Position, fresh}
 use Rattle.vfs_journal.specs.Starts.{Bound}

@@ -3,12 +3,12 @@ use Rattle.std.specs.Prelude.{ℕ, Bool, true, false, not, List, [], ◌∷◌, 
 use Rattle.std.specs.FinMap as finite
 use Rattle.std.specs.Option.{option_map_or}
 use Rattle.std.specs.Ordering.{nat_cmp}
-use Rattle.endpoint_link.specs.Frames.{Frame, spellings}
-pub use Rattle.endpoint_link.specs.Fronts.{Begins}
-use Rattle.endpoint_link.specs.declared.kinds.FrameKind.{FrameKind}
-use Rattle.endpoint_link.specs.declared.kinds.FrameKind.TheVariants as kind
-pub use Rattle.endpoint_link.specs.Refusals.{refused_frame}
-use Rattle.endpoint_link.specs.Numbering.{among}
+use Rattle.link_frames.specs.Frames.{Frame, spellings}
+pub use Rattle.link_frames.specs.Fronts.{Begins}
+use Rattle.link_frames.specs.declared.kinds.FrameKind.{FrameKind}
+use Rattle.link_frames.specs.declared.kinds.FrameKind.TheVariants as kind
+pub use Rattle.link_frames.specs.Refusals.{refused_frame}
+use Rattle.link_admission.specs.Numbering.{among}
 use Rattle.node_graph.specs.Tree.{Tree}
 use Rattle.vfs_journal.specs.Entries.{Entry, sends, serves, refuses, Journal}
 use Rattle.vfs_journal.specs.History.{Event, History, living, trees_of, tree_at}

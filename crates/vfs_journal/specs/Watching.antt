@@ -1,6 +1,6 @@
 -- What the watchers of a directory are told.
 use Rattle.std.specs.Prelude.{ℕ, List, map, filter, flat_map}
-use Rattle.endpoint_link.specs.Frames.{Frame}
+use Rattle.link_frames.specs.Frames.{Frame}
 use Rattle.node_graph.specs.Tree.{Tree, names_in}
 use Rattle.path_walk.specs.Names.{dot}
 use Rattle.conn_rules.specs.Answers.{Happening}

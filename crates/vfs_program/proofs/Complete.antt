@@ -8,12 +8,12 @@ use Rattle.host_io.specs.Streams.{AppendsPart}
 use Rattle.host_io.specs.Told.{Told, Holds, IsAllOf, IsLongerThan}
 use Rattle.session_start.specs.Items.{Lists}
 use Rattle.tree_file.specs.Rules.{first_failure}
-use Rattle.endpoint_link.specs.Frames.{Frames, Bad}
-use Rattle.endpoint_link.specs.declared.kinds.FrameReason.{FrameReason}
-use Rattle.endpoint_link.specs.declared.kinds.Side.{Side}
-use Rattle.endpoint_link.specs.declared.kinds.Side.TheVariants.{Any, ToServers}
-use Rattle.endpoint_link.proofs.Runs.{bad_stays}
-use Rattle.endpoint_link.proofs.Streams.{one_list, not_both}
+use Rattle.link_frames.specs.Frames.{Frames, Bad}
+use Rattle.link_frames.specs.declared.kinds.FrameReason.{FrameReason}
+use Rattle.link_frames.specs.declared.kinds.Side.{Side}
+use Rattle.link_frames.specs.declared.kinds.Side.TheVariants.{Any, ToServers}
+use Rattle.link_frames.proofs.Runs.{bad_stays}
+use Rattle.link_frames.proofs.Streams.{one_list, not_both}
 use Rattle.script_session.specs.Playing.{transcript}
 use Rattle.vfs_journal.specs.Starts.{start_of}
 use Rattle.vfs_script.specs.Scripts.{bad_line}

@@ -14,11 +14,11 @@ use Rattle.tree_file.specs.Generated.{directory_of, generated_lists}
 use Rattle.tree_file.specs.Rules.{document_of, failure_of, first_failure, lists_of, start_from}
 use Rattle.tree_file.proofs.Accepted.{accepted_of}
 use Rattle.tree_file.proofs.GeneratedRules.{generated_accepted}
-use Rattle.endpoint_link.specs.Frames.{Frame, Frames, IsFrame, spellings}
-use Rattle.endpoint_link.specs.Fronts.{Begins}
-use Rattle.endpoint_link.specs.declared.kinds.Mode.{Mode}
-use Rattle.endpoint_link.specs.declared.kinds.Mode.TheVariants.{Auto}
-use Rattle.endpoint_link.specs.declared.kinds.Side.TheVariants.{ToServers}
+use Rattle.link_frames.specs.Frames.{Frame, Frames, IsFrame, spellings}
+use Rattle.link_frames.specs.Fronts.{Begins}
+use Rattle.link_frames.specs.declared.kinds.Mode.{Mode}
+use Rattle.link_frames.specs.declared.kinds.Mode.TheVariants.{Auto}
+use Rattle.link_frames.specs.declared.kinds.Side.TheVariants.{ToServers}
 use Rattle.vfs_journal.specs.Entries.{Journal}
 use Rattle.vfs_journal.specs.Lawful.{Lawful}
 use Rattle.vfs_journal.specs.Session.{ended, session}

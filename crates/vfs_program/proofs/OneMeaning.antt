@@ -1,8 +1,8 @@
 -- Words that ask for something ask for nothing else.
 use Rattle.std.proofs.Common.{◌≡◌, ℕ, List, [], ◌∷◌, refl, sym, ap, ◌∙◌, codes, decimal, arith}
 use Rattle.std.proofs.lemmas.Fmt.{decimal_injective}
-use Rattle.endpoint_link.specs.declared.kinds.Mode.{Mode}
-use Rattle.endpoint_link.specs.declared.kinds.Mode.TheVariants as mode
+use Rattle.link_frames.specs.declared.kinds.Mode.{Mode}
+use Rattle.link_frames.specs.declared.kinds.Mode.TheVariants as mode
 use Rattle.workload.specs.Workload.{IsRounds}
 use Rattle.vfs_program.specs.Words.{Asks, FileOf, ServeOf, RunOf, CheckOf, ShowAll, MakeOf, Means, HasRounds, mode_word}
 

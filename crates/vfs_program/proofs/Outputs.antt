@@ -1,9 +1,9 @@
 -- The output of a longer journal begins with that of its past.
 use Rattle.std.proofs.Common.{◌≡◌, ◌∙◌, List, [], ap}
 use Rattle.std.proofs.lemmas.List.Concat.{flat_map-append}
-use Rattle.endpoint_link.specs.Frames.{Frame, spelling, spellings}
-use Rattle.endpoint_link.specs.Fronts.{Begins}
-use Rattle.endpoint_link.specs.declared.kinds.Mode.{Mode}
+use Rattle.link_frames.specs.Frames.{Frame, spelling, spellings}
+use Rattle.link_frames.specs.Fronts.{Begins}
+use Rattle.link_frames.specs.declared.kinds.Mode.{Mode}
 use Rattle.vfs_journal.specs.Entries.{Journal}
 use Rattle.vfs_journal.specs.Output.{frames_of, output_of}
 use Rattle.vfs_journal.specs.Past.{history_of}

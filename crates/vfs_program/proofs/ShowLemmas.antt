@@ -3,8 +3,8 @@ use Rattle.std.proofs.Common.{◌≡◌, ℕ, List, [], ◌∷◌, ◌++◌, IsT
 use Rattle.std.proofs.lemmas.List.Concat.{flat_map-append}
 use Rattle.std.proofs.lemmas.List.Elements.{All-nil}
 use Rattle.std.proofs.KnownBytes.{Appends-nil, Consumes-nil}
-use Rattle.endpoint_link.specs.Frames.{Frame, IsFrame}
-use Rattle.endpoint_link.specs.declared.kinds.Side.{Side}
+use Rattle.link_frames.specs.Frames.{Frame, IsFrame}
+use Rattle.link_frames.specs.declared.kinds.Side.{Side}
 use Rattle.vfs_script.specs.Transcripts.{frame_line}
 use Rattle.run_status.specs.Outside.{Streams}
 use Rattle.link_session.specs.Serving.{HeardOne, HeardEnd, IsGrowing}

@@ -1,7 +1,7 @@
 -- The world of a session over a tree, frame by frame.
 use Rattle.std.proofs.Common.{◌≡◌, List, [], ◌∷◌, ◌++◌, ℕ, IsTrue, Result, Ok, Err, OnErr, refl, sym, ap, ◌∙◌, subst, append_assoc}
-use Rattle.endpoint_link.specs.Frames.{Frame}
-use Rattle.endpoint_link.specs.declared.kinds.Mode.{Mode}
+use Rattle.link_frames.specs.Frames.{Frame}
+use Rattle.link_frames.specs.declared.kinds.Mode.{Mode}
 use Rattle.vfs_journal.specs.Entries.{Journal}
 use Rattle.vfs_journal.specs.Output.{output_of}
 use Rattle.vfs_journal.specs.Session.{drained, session, steps}

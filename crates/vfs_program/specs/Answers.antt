@@ -5,7 +5,7 @@ use Rattle.host_io.specs.Causes.{Rose}
 use Rattle.host_io.specs.Told.{Holds}
 use Rattle.fidl_wire.specs.Names.{AreDistinct}
 use Rattle.session_start.specs.Items.{Lists}
-use Rattle.endpoint_link.specs.declared.kinds.Side.TheVariants as side
+use Rattle.link_frames.specs.declared.kinds.Side.TheVariants as side
 use Rattle.vfs_journal.specs.Starts.{start_of}
 use Rattle.script_session.specs.Playing.{transcript}
 use Rattle.run_status.specs.declared.statuses.Status.{Status}

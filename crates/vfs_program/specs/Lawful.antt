@@ -2,11 +2,11 @@
 -- keeps the laws of every session.
 use Rattle.std.specs.Prelude.{◌≡◌, ◌⊎◌, ℕ, All, List, ◌++◌}
 use Rattle.std.specs.Io.KnownBytes.{IsAtEnd}
-use Rattle.endpoint_link.specs.Frames.{Frame, Frames, IsFrame, spellings}
-use Rattle.endpoint_link.specs.Fronts.{Begins}
-use Rattle.endpoint_link.specs.declared.kinds.Mode.{Mode}
-use Rattle.endpoint_link.specs.declared.kinds.Mode.TheVariants.{Auto}
-use Rattle.endpoint_link.specs.declared.kinds.Side.TheVariants.{ToServers}
+use Rattle.link_frames.specs.Frames.{Frame, Frames, IsFrame, spellings}
+use Rattle.link_frames.specs.Fronts.{Begins}
+use Rattle.link_frames.specs.declared.kinds.Mode.{Mode}
+use Rattle.link_frames.specs.declared.kinds.Mode.TheVariants.{Auto}
+use Rattle.link_frames.specs.declared.kinds.Side.TheVariants.{ToServers}
 use Rattle.session_start.specs.Items.{Lists}
 use Rattle.tree_file.specs.Generated.{generated_lists}
 use Rattle.vfs_journal.specs.Entries.{Journal}

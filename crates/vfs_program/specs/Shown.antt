@@ -1,7 +1,7 @@
 -- Each frame as a line: what is written for the frames of a stream.
 use Rattle.std.specs.Prelude.{ℕ, List, true}
 use Rattle.std.specs.List.{flat_map}
-use Rattle.endpoint_link.specs.Frames.{Frame}
+use Rattle.link_frames.specs.Frames.{Frame}
 use Rattle.vfs_script.specs.Transcripts.{frame_line}
 use Rattle.link_session.specs.Session.{Course}
 

@@ -1,7 +1,7 @@
 -- The session over a tree: what is written for its frames, and which world stands behind them.
 use Rattle.std.specs.Prelude.{List, true}
-use Rattle.endpoint_link.specs.Frames.{Frame, spellings}
-use Rattle.endpoint_link.specs.declared.kinds.Mode.{Mode}
+use Rattle.link_frames.specs.Frames.{Frame, spellings}
+use Rattle.link_frames.specs.declared.kinds.Mode.{Mode}
 use Rattle.vfs_journal.specs.Output.{frames_behind}
 use Rattle.vfs_journal.specs.Session.{session, ended}
 use Rattle.vfs_journal.specs.Starts.{Start}

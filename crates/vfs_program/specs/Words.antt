@@ -1,7 +1,7 @@
 -- The words that the program is called with.
 use Rattle.std.specs.Prelude.{◌≡◌, ℕ, List, [], ◌∷◌, codes, decimal}
-use Rattle.endpoint_link.specs.declared.kinds.Mode.{Mode}
-use Rattle.endpoint_link.specs.declared.kinds.Mode.TheVariants as mode
+use Rattle.link_frames.specs.declared.kinds.Mode.{Mode}
+use Rattle.link_frames.specs.declared.kinds.Mode.TheVariants as mode
 use Rattle.workload.specs.Workload.{IsRounds}
 use Rattle.vfs_program.specs.declared.words.Command.{Command}
 use Rattle.vfs_program.specs.declared.words.Command.TheVariants.{File, Serve, Run, Check, Show, Make}

@@ -1,14 +1,14 @@
 ghost use Rattle.std.specs.Prelude.{◌≡◌};
-ghost use Rattle.endpoint_link.specs.declared.kinds.Side.TheVariants as side;
+ghost use Rattle.link_frames.specs.declared.kinds.Side.TheVariants as side;
 ghost use Rattle.run_status.specs.Causes.{AfterNames};
 ghost use Rattle.run_status.specs.Outside.{streams_told};
 ghost use Rattle.link_session.specs.Session.{SessionAnswers};
 ghost use Rattle.vfs_program.specs.Shown.{lines_course};
 
-use endpoint_link::{FrameView, Side};
 use fidl_names::NoMemory;
 use fidl_wire::Ordinals;
 use host_io::{Sink, Source};
+use link_frames::{FrameView, Side};
 use link_session::{Input, Session, run};
 use run_status::{Status, ordinals};
 use std::alloc::Global;
@@ -45,7 +45,7 @@ struct LinesSession {
 
 impl Session for LinesSession {
     ghost use Rattle.std.specs.Prelude.{◌≡◌};
-    ghost use Rattle.endpoint_link.specs.declared.kinds.Side.TheVariants as side;
+    ghost use Rattle.link_frames.specs.declared.kinds.Side.TheVariants as side;
     ghost use Rattle.vfs_program.specs.Shown.{lines_course};
 
     ghost side = { side.Any };

@@ -1,7 +1,7 @@
 ghost use Rattle.std.specs.Prelude.{◌≡◌, ◌<◌, ◌+◌, List, [], ◌∷◌, IfOk, OnOk};
-ghost use Rattle.endpoint_link.specs.Frames.{Frame, IsFrame};
-ghost use Rattle.endpoint_link.specs.Views.{frame_of};
-ghost use Rattle.endpoint_link.specs.declared.kinds.Side.TheVariants as side;
+ghost use Rattle.link_frames.specs.Frames.{Frame, IsFrame};
+ghost use Rattle.link_frames.specs.Views.{frame_of};
+ghost use Rattle.link_frames.specs.declared.kinds.Side.TheVariants as side;
 ghost use Rattle.session_start.specs.Accepted.{HasFilesOfBytes};
 ghost use Rattle.vfs_journal.specs.Starts.{Start as TheStart, start_of};
 ghost use Rattle.run_status.specs.Causes.{AfterNames};
@@ -12,10 +12,10 @@ ghost use Rattle.link_session.specs.Session.{SessionAnswers};
 ghost use Rattle.run_status.specs.FileCauses.{AfterTree};
 ghost use Rattle.vfs_program.specs.TreeSession.{tree_course, StandsBehind};
 
-use endpoint_link::{FrameView, Mode, Outbox, Side};
 use fidl_names::{MAX_FRAMES, NoMemory};
 use fidl_wire::Ordinals;
 use host_io::{Files, Sink, Source};
+use link_frames::{FrameView, Mode, Outbox, Side};
 use link_session::{Input, Session, run};
 use run_status::{Status, ordinals, read_start};
 use session_start::Start;
@@ -89,7 +89,7 @@ impl TreeSession {
 
 impl Session for TreeSession {
     ghost use Rattle.std.specs.Prelude.{◌≡◌};
-    ghost use Rattle.endpoint_link.specs.declared.kinds.Side.TheVariants as side;
+    ghost use Rattle.link_frames.specs.declared.kinds.Side.TheVariants as side;
     ghost use Rattle.vfs_journal.specs.Starts.{Start as TheStart};
     ghost use Rattle.vfs_program.specs.TreeSession.{tree_course, StandsBehind};
 

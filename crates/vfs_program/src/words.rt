@@ -2,8 +2,8 @@ ghost use Rattle.std.specs.Prelude.{◌≡◌, ◌∷◌, [], ℕ, codes, decima
 ghost use Rattle.workload.specs.Workload.{IsRounds};
 ghost use Rattle.vfs_program.specs.Words.{Means, MeanNothing, command_seen, mode_word};
 
-use endpoint_link::Mode;
 use itoa::Buffer;
+use link_frames::Mode;
 use workload::MAX_ROUNDS;
 
 /// What the words ask for.

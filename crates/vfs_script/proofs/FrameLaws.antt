@@ -10,11 +10,11 @@ use Rattle.std.proofs.lemmas.Option.{same_Some}
 use Rattle.fidl_names.specs.HandleNumber.{number_of_handle}
 use Rattle.fidl_names.specs.Numbers.{AreBytes}
 use Rattle.fidl_names.specs.declared.limits.TheConstants as limit
-use Rattle.endpoint_link.proofs.Words.{length-word_of}
-use Rattle.endpoint_link.specs.Frames.{Frame, HasShape, IsFrame, fixed_part, goes_to, spelling, spellings}
-use Rattle.endpoint_link.specs.Numbers.{word_of}
-use Rattle.endpoint_link.specs.declared.kinds.FrameKind.TheVariants as kind
-use Rattle.endpoint_link.specs.declared.kinds.Side.TheVariants as side
+use Rattle.link_frames.proofs.Words.{length-word_of}
+use Rattle.link_frames.specs.Frames.{Frame, HasShape, IsFrame, fixed_part, goes_to, spelling, spellings}
+use Rattle.link_frames.specs.Numbers.{word_of}
+use Rattle.link_frames.specs.declared.kinds.FrameKind.TheVariants as kind
+use Rattle.link_frames.specs.declared.kinds.Side.TheVariants as side
 use Rattle.fidl_names.specs.declared.methods.Method.TheVariants as method
 use Rattle.fidl_wire.specs.Layout.{members, seq}
 use Rattle.fidl_wire.specs.Spelling.{spelling_of_all}

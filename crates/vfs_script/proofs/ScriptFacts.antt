@@ -1,8 +1,8 @@
 -- What holds of every script, for those above.
 use Rattle.std.specs.Prelude.{ℕ, List, All}
 use Rattle.fidl_names.specs.Numbers.{AreBytes}
-use Rattle.endpoint_link.specs.Frames.{IsFrame, spellings}
-use Rattle.endpoint_link.specs.declared.kinds.Side.TheVariants as side
+use Rattle.link_frames.specs.Frames.{IsFrame, spellings}
+use Rattle.link_frames.specs.declared.kinds.Side.TheVariants as side
 use Rattle.vfs_script.specs.Scripts.{AreCalls, calls_of, frames_of}
 use Rattle.vfs_script.proofs.FrameLaws.{frames_go}
 use Rattle.vfs_script.proofs.ScriptLemmas.{calls_are}

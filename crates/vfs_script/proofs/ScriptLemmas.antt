@@ -7,12 +7,12 @@ use Rattle.std.proofs.lemmas.List.{length-drop, length-map}
 use Rattle.io_messages.specs.Asked.{Asked, method_of}
 use Rattle.io_messages.specs.Shapes.{is_one_way}
 use Rattle.io_client.specs.Calls.{watcher_of}
-use Rattle.endpoint_link.specs.declared.kinds.Mode.{Mode}
+use Rattle.link_frames.specs.declared.kinds.Mode.{Mode}
 use Rattle.vfs_script.specs.declared.calls.Call.{Call}
 use Rattle.vfs_script.specs.Lines.{Line, request, raw, hang_up, turn, pick, line_of, fits_at, call_of}
 use Rattle.vfs_script.specs.Words.{given, newline}
 use Rattle.text_pieces.specs.Pieces.{pieces}
-use Rattle.endpoint_link.specs.Frames.{spelling, spellings}
+use Rattle.link_frames.specs.Frames.{spelling, spellings}
 use Rattle.fidl_names.specs.First.{first_of}
 use Rattle.vfs_script.specs.Kept.{Kept, kept_and, kept_with}
 use Rattle.vfs_script.specs.Scripts.{AreApart, AreCalls, bad_line, calls_of, frames_of, lines_of, script_lines, script_mode, Numbered, Spoken, said_at, bad_heads, bad_in, bad_lines, behind_mode, call_in, frame_of, from_mode, heads, is_skipped, mode_in, numbered_from, spoken, spoken_in}

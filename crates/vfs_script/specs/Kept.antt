@@ -1,7 +1,7 @@
 -- What is kept of a script.
 use Rattle.std.specs.Prelude.{◌≡◌, ℕ, ⊤, List, [], ◌∷◌, ◌++◌, Option, Some, None, Result, Ok, Err}
-use Rattle.endpoint_link.specs.declared.kinds.Mode.{Mode}
-use Rattle.endpoint_link.specs.Frames.{Frame, spelling}
+use Rattle.link_frames.specs.declared.kinds.Mode.{Mode}
+use Rattle.link_frames.specs.Frames.{Frame, spelling}
 use Rattle.vfs_script.specs.declared.calls.Call.{Call}
 use Rattle.vfs_script.specs.declared.faults.ScriptFault.{ScriptFault}
 use Rattle.vfs_script.specs.declared.faults.ScriptFault.TheVariants as fault

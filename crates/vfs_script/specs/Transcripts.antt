@@ -9,10 +9,10 @@ use Rattle.fidl_names.specs.declared.methods.Method.{Method}
 use Rattle.fidl_names.specs.declared.methods.Method.TheVariants as method
 use Rattle.fidl_wire.specs.Names.{event_ordinal}
 use Rattle.fidl_wire.specs.Epitaphs.{epitaph_ordinal}
-use Rattle.endpoint_link.specs.declared.kinds.FrameKind.{FrameKind}
-use Rattle.endpoint_link.specs.declared.kinds.FrameKind.TheVariants as kind
-use Rattle.endpoint_link.specs.Frames.{Frame}
-use Rattle.endpoint_link.specs.Numbers.{word_in}
+use Rattle.link_frames.specs.declared.kinds.FrameKind.{FrameKind}
+use Rattle.link_frames.specs.declared.kinds.FrameKind.TheVariants as kind
+use Rattle.link_frames.specs.Frames.{Frame}
+use Rattle.link_frames.specs.Numbers.{word_in}
 use Rattle.io_messages.specs.Replies.{method_with}
 use Rattle.vfs_script.specs.Words.{none_word, comma}
 

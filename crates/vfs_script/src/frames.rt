@@ -2,7 +2,7 @@
 
 ghost use Rattle.std.specs.Prelude.{◌≡◌, ◌<◌, [], length, if◌then◌else◌, IfOk, IfErr, OnOk, None, Some};
 ghost use Rattle.std.specs.Str.{IsUtf8};
-ghost use Rattle.endpoint_link.specs.Frames.{HasShape, frame_with};
+ghost use Rattle.link_frames.specs.Frames.{HasShape, frame_with};
 ghost use Rattle.io_messages.specs.Asked.{asked};
 ghost use Rattle.io_messages.specs.Shapes.{is_one_way};
 ghost use Rattle.io_messages.specs.Writing.{HasTexts};
@@ -18,12 +18,11 @@ use crate::faults::ScriptFault;
 use crate::forms::{Parsed, line_of};
 use crate::numbers::{bytes, handles, is_text};
 use byteorder::{ByteOrder, LittleEndian};
-use endpoint_link::{FrameKind, Outbox, write_frame, write_message};
 use fidl_names::{MAX_BYTES, Method, NoMemory};
 use fidl_wire::{Ordinals, Out};
 use io_client::watcher_of;
-use io_messages::{Request, is_one_way};
-use message_writer::write_request;
+use io_messages::{Request, is_one_way, write_request};
+use link_frames::{FrameKind, Outbox, write_frame, write_message};
 use std::alloc::Global;
 use std::marker::Model;
 

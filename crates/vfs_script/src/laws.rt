@@ -2,8 +2,8 @@
 
 ghost use Rattle.std.specs.Prelude.{ℕ, List, All};
 ghost use Rattle.fidl_names.specs.Numbers.{AreBytes};
-ghost use Rattle.endpoint_link.specs.Frames.{IsFrame, spellings};
-ghost use Rattle.endpoint_link.specs.declared.kinds.Side.TheVariants as side;
+ghost use Rattle.link_frames.specs.Frames.{IsFrame, spellings};
+ghost use Rattle.link_frames.specs.declared.kinds.Side.TheVariants as side;
 ghost use Rattle.vfs_script.specs.Scripts.{AreApart, calls_of, frames_of};
 
 /// No two calls of a script have one transaction id, since that is the number of a line. It

@@ -3,18 +3,18 @@
 ghost use Rattle.std.specs.Prelude.{◌≡◌, ◌++◌, ◌≤◌, codes, decimal, length, take, OnErr, OnOk};
 ghost use Rattle.std.specs.Fmt.{signed_decimal};
 ghost use Rattle.std.specs.Int.{w32, cast_signed};
-ghost use Rattle.endpoint_link.specs.declared.kinds.Side.TheVariants as side;
-ghost use Rattle.endpoint_link.specs.Frames.{HasShape, IsFrame};
-ghost use Rattle.endpoint_link.specs.Numbers.{word_in};
-ghost use Rattle.endpoint_link.specs.Views.{frame_of, handle_numbers};
+ghost use Rattle.link_frames.specs.declared.kinds.Side.TheVariants as side;
+ghost use Rattle.link_frames.specs.Frames.{HasShape, IsFrame};
+ghost use Rattle.link_frames.specs.Numbers.{word_in};
+ghost use Rattle.link_frames.specs.Views.{frame_of, handle_numbers};
 ghost use Rattle.vfs_script.specs.Transcripts.{bytes_text, counts_line, frame_line, handles_text, label_of, label_with, name_of, told_of};
 
 use crate::outtext::Outtext;
 use byteorder::{ByteOrder, LittleEndian};
-use endpoint_link::{FrameKind, FrameView, HandleBytes, word_in};
 use fidl_names::{MAX_BYTES, Method, NoMemory};
 use fidl_wire::{EPITAPH_ORDINAL, HEADER_SIZE, MAGIC, Ordinals};
 use itoa::Buffer;
+use link_frames::{FrameKind, FrameView, HandleBytes, word_in};
 
 /// What stands in front of the handles of a message without a label of its own.
 const RAW: &[u8] = b" message raw ";

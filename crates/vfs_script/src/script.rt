@@ -2,7 +2,7 @@ ghost use Rattle.std.specs.Prelude.{◌≡◌, ◌≤◌, ◌<◌, ◌+◌, ◌�
 ghost use Rattle.std.specs.Option.{option_or};
 ghost use Rattle.std.specs.Str.{IsUtf8, is_utf8};
 ghost use Rattle.fidl_names.specs.First.{cause_if, first_of};
-ghost use Rattle.endpoint_link.specs.Frames.{spellings};
+ghost use Rattle.link_frames.specs.Frames.{spellings};
 ghost use Rattle.io_messages.specs.Shapes.{is_one_way};
 ghost use Rattle.vfs_script.specs.Kept.{kept_with};
 ghost use Rattle.vfs_script.specs.Noting.{IsFree, with_noted};
@@ -13,10 +13,10 @@ use crate::faults::ScriptFault;
 use crate::frames::Frames;
 use crate::numbers::is_text;
 use crate::pieces::Pieces;
-use endpoint_link::{Mode, Outbox};
 use fidl_names::{MAX_TEXT, NoMemory};
 use fidl_wire::Ordinals;
 use io_client::{Client, ClientFault};
+use link_frames::{Mode, Outbox};
 use std::alloc::Global;
 use std::marker::Model;
 

@@ -8,8 +8,8 @@ use Rattle.fidl_names.specs.HandleNumber.{handle_with, number_of_handle}
 use Rattle.fidl_names.specs.declared.limits.TheConstants as limit
 use Rattle.fidl_names.specs.declared.methods.Handle.{Handle}
 use Rattle.fidl_names.specs.declared.methods.Handle.TheVariants.{Endpoint, Token}
-use Rattle.endpoint_link.specs.Numbering.{among}
-use Rattle.endpoint_link.specs.Frames.{spellings}
+use Rattle.link_admission.specs.Numbering.{among}
+use Rattle.link_frames.specs.Frames.{spellings}
 use Rattle.io_messages.specs.Requests.{request_of}
 use Rattle.node_graph.specs.declared.nodes.NodeRef.{NodeRef}
 use Rattle.node_graph.specs.Graph.{Kept, StandsFor, number_of}

@@ -4,7 +4,7 @@ use Rattle.std.specs.Result.{OnErr, OnOk}
 use Rattle.std.specs.Option.{option_map, option_map_or}
 use Rattle.std.proofs.lemmas.List.Elements.{All-nil}
 use Rattle.fidl_wire.specs.Written.{Written}
-use Rattle.endpoint_link.specs.Frames.{Frame, spellings}
+use Rattle.link_frames.specs.Frames.{Frame, spellings}
 use Rattle.fidl_names.specs.declared.methods.Handle.{Handle}
 use Rattle.fidl_names.specs.declared.methods.Handle.TheVariants.{Endpoint}
 use Rattle.request_reader.specs.Laws.{Carries}
@@ -39,7 +39,7 @@ use Rattle.vfs_server.specs.Kept.{Tokens}
 use Rattle.vfs_server.specs.Servers.{bound_with}
 use Rattle.vfs_server.specs.Steps.{Acts, Answers, Done, BindsConnection, CanTell, DoesFault, DoesGiven, IsAskedAt, IsGiven, IsOnDirectory, MayWatch, NamesAsThere, Takes, act_asked, asker_with, effects_by, effects_given, frames_given, names_in, room_for, token_given}
 use Rattle.vfs_server.specs.Telling.{IsShort}
-use Rattle.start_graph.proofs.NamedNodes.{named_kind}
+use Rattle.session_start.proofs.NamedNodes.{named_kind}
 use Rattle.vfs_server.proofs.Carried.{looked_up}
 use Rattle.vfs_server.proofs.Taken.{is_taken, taken_came, taking_alike}
 use Rattle.vfs_server.proofs.Handed.{token_is}

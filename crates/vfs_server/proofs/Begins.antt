@@ -25,7 +25,7 @@ use Rattle.session_start.proofs.Soundness.{clients_stand, targets_stand}
 use Rattle.vfs_journal.specs.History.{is_watcher}
 use Rattle.vfs_journal.specs.Starts.{Bound, end_of, first_of_client}
 use Rattle.vfs_server.specs.Beginning.{begins_with, bound_among, clients_among, ends_among}
-use Rattle.start_graph.proofs.Chosen.{chosen_more, chosen_same, chosen_split, enumerated, filter-map, found_none, get_or_behind, get_or_before, within_behind}
+use Rattle.session_start.proofs.Chosen.{chosen_more, chosen_same, chosen_split, enumerated, filter-map, found_none, get_or_behind, get_or_before, within_behind}
 
 abbrev pub OtherEndpoint : Bound → Bound → Type 0
 OtherEndpoint one other = one.endpoint ≢ other.endpoint

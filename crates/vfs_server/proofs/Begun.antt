@@ -29,7 +29,7 @@ use Rattle.conn_rules.specs.Shared.{is_spoken_at}
 use Rattle.vfs_journal.specs.History.{is_watcher, living, tree_at}
 use Rattle.vfs_journal.specs.Starts.{Bound, end_of, first_of_client, start_of}
 use Rattle.vfs_journal.specs.View.{at_in, bounds_in, view_of, with_position}
-use Rattle.start_graph.specs.Places.{Stands, path_cmp}
+use Rattle.session_start.specs.Places.{Stands, path_cmp}
 use Rattle.vfs_server.specs.declared.watching.Seat.{Seat}
 use Rattle.vfs_server.specs.Binding.{Binds, HasPlace, IsDirectory}
 use Rattle.vfs_server.specs.Beginning.{HoldsJust, IsNextBound, begins_with, begun, bound_among, clients_among}
@@ -37,12 +37,12 @@ use Rattle.vfs_server.specs.Holding.{HoldsAt, bound_to, if_at, living_at, named_
 use Rattle.vfs_server.specs.Kept.{IsSound, Tokens}
 use Rattle.vfs_server.specs.Servers.{Server, bound_with, seen, seen_as}
 use Rattle.vfs_server.proofs.Begins.{OtherEndpoint, apart, clients_split, ends_of, ends_split, few_before, firsts_of, not_before, pairs-head, pairs-tail, stands_on, all_directories}
-use Rattle.start_graph.proofs.Chosen.{find-map, found_none, none_chosen}
+use Rattle.session_start.proofs.Chosen.{find-map, found_none, none_chosen}
 use Rattle.vfs_server.proofs.Held.{at_node, to_node}
 use Rattle.vfs_server.proofs.Maps.{count_none, one_if}
-use Rattle.start_graph.proofs.NamedNodes.{named_kind, named_some}
-use Rattle.start_graph.proofs.Nexts.{grows_whole}
-use Rattle.start_graph.proofs.Standing.{kept_by, leads_in, place_in}
+use Rattle.session_start.proofs.NamedNodes.{named_kind, named_some}
+use Rattle.session_start.proofs.Nexts.{grows_whole}
+use Rattle.session_start.proofs.Seated.{kept_by, leads_in, place_in}
 
 -- ---- none
 

@@ -12,7 +12,7 @@ use Rattle.fidl_names.specs.declared.methods.Method.{Method}
 use Rattle.fidl_names.specs.declared.methods.Method.TheVariants as method
 use Rattle.fidl_wire.specs.Grammar.{IsSpelled, Lays, Part, Spells}
 use Rattle.fidl_wire.specs.Layout.{Cell, Item, struct, fields, held, num, blank, seq, members}
-use Rattle.endpoint_link.specs.Numbering.{among}
+use Rattle.link_admission.specs.Numbering.{among}
 use Rattle.io_messages.specs.declared.protocols.Protocol.{Protocol}
 use Rattle.io_messages.specs.Asked.{Asked}
 use Rattle.io_messages.specs.Requests.{Reads, a_token, request_cells, asked_from, item, handle_in, handle_of}

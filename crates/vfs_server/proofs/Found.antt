@@ -2,7 +2,7 @@
 use Rattle.std.proofs.Common.{◌≡◌, ◌∙◌, ℕ, cond, List, None, Option, Some, ap, eqb, sym}
 use Rattle.std.specs.FinMap as finite
 use Rattle.std.specs.Map.{lookup}
-use Rattle.endpoint_link.proofs.Tabled.{changes-table, get-table, map-insert}
+use Rattle.link_admission.proofs.Tabled.{changes-table, get-table, map-insert}
 use Rattle.conn_rules.specs.Births.{Connection}
 use Rattle.vfs_server.specs.Kept.{Connections}
 use Rattle.vfs_server.proofs.Maps.{get_put, get_put_other, same_map, standing, same, other}

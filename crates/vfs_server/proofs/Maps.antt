@@ -12,7 +12,7 @@ use Rattle.std.specs.declared.cmp.Ordering.{Ordering}
 use Rattle.std.specs.declared.cmp.Ordering.TheVariants.{Less, Equal, Greater}
 use Rattle.std.proofs.lemmas.List.{length-map}
 use Rattle.std.proofs.lemmas.List.Sums.{count_by-le-length, sum_by-cons}
-use Rattle.endpoint_link.proofs.Tabled as Tabled
+use Rattle.link_admission.proofs.Tabled as Tabled
 
 abbrev pub Numbered : Type 0 → Type 0
 Numbered V = finite.FinMap nat_cmp V

@@ -4,8 +4,8 @@ use Rattle.std.specs.FinMap as finite
 use Rattle.std.specs.Option.{option_map_or}
 use Rattle.std.proofs.lemmas.Bool.{eq-eqb}
 use Rattle.std.proofs.lemmas.List.Elements.{filter_agree}
-use Rattle.endpoint_link.specs.Frames.{Frame, spellings}
-use Rattle.endpoint_link.proofs.Runs.{spellings-append}
+use Rattle.link_frames.specs.Frames.{Frame, spellings}
+use Rattle.link_frames.proofs.Runs.{spellings-append}
 use Rattle.node_graph.specs.declared.nodes.NodeRef.{NodeRef}
 use Rattle.node_graph.specs.Graph.{Kept, Listed, StandsFor, listed_after, number_of}
 use Rattle.node_graph.specs.Tree.{Change, EdgeKey, EdgeTo, Edges, Tree, after, names_in, stay}

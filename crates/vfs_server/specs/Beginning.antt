@@ -12,7 +12,7 @@ use Rattle.node_graph.specs.Graph.{Names, StandsFor, holds_at}
 use Rattle.session_start.specs.Accepted.{AreAccepted}
 use Rattle.session_start.specs.Items.{Lists}
 use Rattle.session_start.specs.Numbering.{named_of, number_in, tree_of}
-use Rattle.start_graph.specs.Places.{IsNumbering, path_cmp}
+use Rattle.session_start.specs.Places.{IsNumbering, path_cmp}
 use Rattle.vfs_journal.specs.Starts.{Bound, directory_birth, end_of, first_of_client, start_of}
 use Rattle.vfs_server.specs.Servers.{Server, in_use, seen}
 

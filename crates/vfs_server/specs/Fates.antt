@@ -2,7 +2,7 @@
 use Rattle.std.specs.Prelude.{ℕ, List, [], ◌∷◌, Option, Some, None}
 use Rattle.std.specs.Option.{option_map}
 use Rattle.fidl_names.specs.HandleNumber.{end_of_mount}
-use Rattle.remote_forward.specs.Onward.{onward_bytes}
+use Rattle.conn_rules.specs.Onward.{onward_bytes}
 use Rattle.vfs_journal.specs.Outcomes.{Forwarded, Outcome}
 use Rattle.vfs_server.specs.declared.fate.Fate.{Fate}
 use Rattle.vfs_server.specs.declared.fate.Fate.TheVariants as fates

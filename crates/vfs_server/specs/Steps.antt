@@ -9,9 +9,9 @@ use Rattle.fidl_names.specs.declared.methods.Handle.{Handle}
 use Rattle.fidl_names.specs.declared.methods.Handle.TheVariants.{Endpoint, Token}
 use Rattle.fidl_names.specs.declared.methods.Method.TheVariants as method
 use Rattle.fidl_wire.specs.Written.{Written}
-use Rattle.endpoint_link.specs.Frames.{Frame, frame_with, spellings}
-use Rattle.endpoint_link.specs.Numbering.{among}
-use Rattle.endpoint_link.specs.declared.kinds.FrameKind.TheVariants as kind
+use Rattle.link_frames.specs.Frames.{Frame, frame_with, spellings}
+use Rattle.link_admission.specs.Numbering.{among}
+use Rattle.link_frames.specs.declared.kinds.FrameKind.TheVariants as kind
 use Rattle.io_messages.specs.declared.protocols.Protocol.TheVariants as protocol
 use Rattle.io_messages.specs.declared.requests.RequestFault.{RequestFault}
 use Rattle.io_messages.specs.declared.requests.RequestFault.TheVariants.{UnknownTwoWay}
@@ -42,13 +42,13 @@ use Rattle.conn_rules.specs.Shared.{CanBeBound}
 use Rattle.dir_conn.specs.declared.served.DirServed.{DirServed}
 use Rattle.dir_conn.specs.declared.served.DirServed.TheVariants as dir
 use Rattle.dir_conn.specs.Served.{directory_named}
-use Rattle.node_conn.specs.Texts.{text_of}
+use Rattle.file_conn.specs.Texts.{text_of}
 use Rattle.vfs_journal.specs.Handles.{numbers_of}
 use Rattle.vfs_journal.specs.Outcomes as outcomes
 use Rattle.vfs_journal.specs.Outcomes.{Asker, Outcome, announcement, bound_of, close_frame, ending, ends_of, forward_of, frames_of}
 use Rattle.vfs_journal.specs.Output.{Begins}
 use Rattle.vfs_journal.specs.View.{moved}
-use Rattle.remote_forward.specs.Onward.{onward_bytes}
+use Rattle.conn_rules.specs.Onward.{onward_bytes}
 use Rattle.vfs_journal.specs.Serving.{Moment, fault_answer, fault_txid}
 use Rattle.vfs_server.specs.declared.asking.Asking.{Asking}
 use Rattle.vfs_server.specs.declared.conn.Conn.{Conn}

@@ -1,7 +1,7 @@
 -- What those who watch are told of what happens to names and directories.
 use Rattle.std.specs.Prelude.{ℕ, List, [], Option, Some, None}
 use Rattle.std.specs.List.{flat_map}
-use Rattle.endpoint_link.specs.Frames.{Frame}
+use Rattle.link_frames.specs.Frames.{Frame}
 use Rattle.node_graph.specs.Tree.{HasNameLength}
 use Rattle.path_walk.specs.Names.{dot}
 use Rattle.conn_rules.specs.declared.changes.At.{At}

@@ -1,6 +1,6 @@
 -- Who watches as the server has it bound, and what a new watcher is told first. No public clause needs these.
 use Rattle.std.specs.Prelude.{ℕ, List, [], map}
-use Rattle.endpoint_link.specs.Frames.{Frame}
+use Rattle.link_frames.specs.Frames.{Frame}
 use Rattle.node_graph.specs.Graph.{number_of}
 use Rattle.node_graph.specs.Tree.{Edges, names_in}
 use Rattle.watch_events.specs.Messages.{first_frames}

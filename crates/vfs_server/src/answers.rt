@@ -2,7 +2,7 @@
 
 ghost use Rattle.std.specs.Prelude.{◌≡◌, ◌≢◌, ◌++◌, [], ℕ, IfOk, OnErr, OnOk};
 ghost use Rattle.node_graph.specs.declared.nodes.NodeRef.{NodeRef};
-ghost use Rattle.endpoint_link.specs.Frames.{spellings};
+ghost use Rattle.link_frames.specs.Frames.{spellings};
 ghost use Rattle.io_messages.specs.Asked.{asked};
 ghost use Rattle.vfs_journal.specs.Outcomes.{announcement, ending};
 ghost use Rattle.vfs_journal.specs.Serving.{object_of};
@@ -14,11 +14,10 @@ use crate::deed::Deed;
 use crate::frames::{put_announcement, put_ending, put_last, put_message};
 use crate::given::Given;
 use conn_rules::Birth;
-use endpoint_link::{Outbox, write_message};
 use fidl_names::{Handle, NoMemory, Status};
 use fidl_wire::{Ordinals, Out};
-use io_messages::{Protocol, Reply, Request, RequestFault};
-use message_writer::write_reply;
+use io_messages::{Protocol, Reply, Request, RequestFault, write_reply};
+use link_frames::{Outbox, write_message};
 use node_graph::NodeRef;
 
 /// The endpoint that a request carries, 0 for none.

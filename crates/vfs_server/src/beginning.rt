@@ -1,7 +1,7 @@
 //! What a server begins with.
 
 ghost use Rattle.std.specs.Prelude.{◌≡◌, ◌<◌, [], IfOk, length};
-ghost use Rattle.start_graph.specs.Places.{Stands};
+ghost use Rattle.session_start.specs.Places.{Stands};
 ghost use Rattle.session_start.specs.Accepted.{AreAccepted};
 ghost use Rattle.session_start.specs.Numbering.{named_of};
 ghost use Rattle.vfs_journal.specs.Starts.{start_of};
@@ -12,8 +12,7 @@ use crate::firsts::bind_firsts;
 use crate::server::Server;
 use fidl_names::NoMemory;
 use node_graph::Graph;
-use session_start::Start;
-use start_graph::{Grown, Places, grow};
+use session_start::{Grown, Places, Start, grow};
 use std::alloc::Global;
 
 /// Makes the server of an accepted start with this index.

@@ -14,9 +14,8 @@ use conn_rules::{Birth, Changes};
 use dir_conn::DirConn;
 use fidl_names::NoMemory;
 use fidl_wire::Out;
-use file_conn::FileConn;
+use file_conn::{FileConn, NodeConn, echo};
 use io_messages::{Protocol, Request};
-use node_conn::{NodeConn, echo};
 use node_graph::{Graph, NodeRef};
 use std::alloc::Global;
 

@@ -11,8 +11,7 @@ use conn_rules::Birth;
 use fidl_names::{NoMemory, end_of_mount};
 use io_messages::Protocol;
 use io_rights::Rights;
-use session_start::Start;
-use start_graph::{Places, node_at};
+use session_start::{Places, Start, node_at};
 
 // Binds an endpoint as the next one that a server begins with: at the directory of a path.
 fn bind_at<'a>(

@@ -2,15 +2,14 @@
 
 ghost use Rattle.std.specs.Prelude.{◌≡◌, ◌≢◌, ◌≤◌, ◌++◌, [], ◌∷◌, length, take, OnOk, OnErr};
 ghost use Rattle.fidl_names.specs.StatusNumber.{number_of};
-ghost use Rattle.endpoint_link.specs.Frames.{spelling, spellings};
+ghost use Rattle.link_frames.specs.Frames.{spelling, spellings};
 ghost use Rattle.vfs_journal.specs.Outcomes.{announcement, close_frame, ending};
 ghost use Rattle.vfs_server.specs.Steps.{last_frames, message_frame};
 
-use endpoint_link::{FrameKind, Outbox, write_frame, write_message};
 use fidl_names::{NoMemory, Status};
 use fidl_wire::{Ordinals, Out, epitaph};
-use io_messages::Protocol;
-use message_writer::write_event;
+use io_messages::{Protocol, write_event};
+use link_frames::{FrameKind, Outbox, write_frame, write_message};
 
 /// Writes the message in an output on an endpoint.
 #[inline(always)]

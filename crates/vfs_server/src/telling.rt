@@ -1,7 +1,7 @@
 //! What watchers are told of a serving, behind its answer.
 
 ghost use Rattle.std.specs.Prelude.{◌≡◌, ◌++◌, [], ℕ, true, OnErr, OnOk};
-ghost use Rattle.endpoint_link.specs.Frames.{spellings};
+ghost use Rattle.link_frames.specs.Frames.{spellings};
 ghost use Rattle.conn_rules.specs.Answers.{nothing_told};
 ghost use Rattle.conn_rules.specs.Served.{told_by};
 ghost use Rattle.node_graph.specs.declared.nodes.NodeRef.{NodeRef};
@@ -14,8 +14,8 @@ ghost use Rattle.vfs_journal.specs.Output.{Begins};
 use crate::deed::Deed;
 use crate::watching::Watching;
 use conn_rules::Changes;
-use endpoint_link::Outbox;
 use fidl_names::NoMemory;
+use link_frames::Outbox;
 use node_graph::{Graph, NodeRef};
 use watch_events::snapshot;
 

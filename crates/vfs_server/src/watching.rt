@@ -2,7 +2,7 @@
 
 ghost use Rattle.std.specs.Prelude.{◌≡◌, ◌<◌, ◌++◌, ◌∷◌, [], All, None, OnErr, OnOk, Some, filter, length};
 ghost use Rattle.std.specs.Option.{option_map};
-ghost use Rattle.endpoint_link.specs.Frames.{spellings};
+ghost use Rattle.link_frames.specs.Frames.{spellings};
 ghost use Rattle.fidl_names.specs.declared.limits.TheConstants as limit;
 ghost use Rattle.node_graph.specs.Graph.{Names, number_of};
 ghost use Rattle.conn_rules.specs.Served.{told_by};
@@ -14,9 +14,9 @@ ghost use Rattle.vfs_server.specs.Seats.{is_at, seat_at, without};
 ghost use Rattle.vfs_server.specs.Telling.{IsShort, gone_told, name_told, told_of};
 
 use conn_rules::{At, Changes};
-use endpoint_link::Outbox;
 use fidl_names::NoMemory;
 use indexmap::IndexMap;
+use link_frames::Outbox;
 use node_graph::{Graph, NodeRef};
 use std::alloc::Global;
 use std::marker::Model;

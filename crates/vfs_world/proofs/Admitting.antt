@@ -2,13 +2,13 @@
 use Rattle.std.proofs.Common.{◌≡◌, ◌∙◌, ◌-◌, ◌⊎◌, ℕ, [], MatchOption, None, Option, Some, Result, Ok, Err, inl, inr, ap, refl}
 use Rattle.std.specs.Result.{OnErr, OnOk}
 use Rattle.fidl_names.specs.declared.limits.TheConstants as limit
-use Rattle.endpoint_link.specs.Admission.{Admits, admission, look_ups}
-use Rattle.endpoint_link.specs.Frames.{Frame}
-use Rattle.endpoint_link.specs.Standings.{Known, Sends as SendsHandles, standing_of}
-use Rattle.endpoint_link.specs.declared.kinds.AdmitFault.{AdmitFault}
-use Rattle.endpoint_link.specs.declared.kinds.AdmitFault.TheVariants as fault
-use Rattle.endpoint_link.specs.declared.kinds.Refusal.{Refusal}
-use Rattle.endpoint_link.specs.declared.kinds.Standing.TheVariants as standing
+use Rattle.link_admission.specs.Admission.{Admits, admission, look_ups}
+use Rattle.link_frames.specs.Frames.{Frame}
+use Rattle.link_admission.specs.Standings.{Known, Sends as SendsHandles, standing_of}
+use Rattle.link_admission.specs.declared.kinds.AdmitFault.{AdmitFault}
+use Rattle.link_admission.specs.declared.kinds.AdmitFault.TheVariants as fault
+use Rattle.link_frames.specs.declared.kinds.Refusal.{Refusal}
+use Rattle.link_admission.specs.declared.kinds.Standing.TheVariants as standing
 use Rattle.vfs_world.specs.Arrivals.{IsAdmitted, IsFree, IsPlain}
 use Rattle.vfs_world.specs.Running.{IsRunning}
 use Rattle.vfs_world.specs.World.{World}

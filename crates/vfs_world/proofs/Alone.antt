@@ -1,8 +1,8 @@
 -- A serving of which one endpoint dies while nothing waits: nobody dies with it, no token is spent, and nothing is sent on.
 use Rattle.std.proofs.Common.{◌≡◌, ℕ, ◌+◌, ◌++◌, Bool, not, cond, List, [], ◌∷◌, filter, map, fold, Option, Some, append-nil, refl, sym, ap, ◌∙◌, subst, arith}
 use Rattle.std.proofs.lemmas.Bool.{eq-eqb}
-use Rattle.endpoint_link.specs.Frames.{spellings}
-use Rattle.endpoint_link.specs.Standings.{Known, ended, gone}
+use Rattle.link_frames.specs.Frames.{spellings}
+use Rattle.link_admission.specs.Standings.{Known, ended, gone}
 use Rattle.vfs_journal.specs.Entries.{Sent}
 use Rattle.vfs_journal.specs.Outcomes.{close_frame}
 use Rattle.vfs_journal.specs.Output.{rising}

@@ -14,15 +14,15 @@ use Rattle.fidl_names.specs.declared.limits.TheConstants as limit
 use Rattle.fidl_names.specs.First.{cause_if, first_of}
 use Rattle.fidl_names.specs.HandleNumber.{is_client}
 use Rattle.fidl_wire.specs.Names.{AreDistinct}
-use Rattle.endpoint_link.specs.Frames.{Frame, IsFrame}
-use Rattle.endpoint_link.specs.Admission.{Admits, AdmitsKind, admission, by_standing, is_full, look_ups as known_look_ups, refusal_by, too_many}
-use Rattle.endpoint_link.specs.Standings.{Known, Sends as SendsHandles, standing_of as known_standing}
-use Rattle.endpoint_link.specs.declared.kinds.FrameKind.{FrameKind}
-use Rattle.endpoint_link.specs.declared.kinds.FrameKind.TheVariants as kind
-use Rattle.endpoint_link.specs.declared.kinds.Refusal.{Refusal}
-use Rattle.endpoint_link.specs.declared.kinds.Refusal.TheVariants as refusal
-use Rattle.endpoint_link.specs.declared.kinds.Side.TheVariants.{ToServers}
-use Rattle.endpoint_link.specs.declared.kinds.Standing.TheVariants as standing
+use Rattle.link_frames.specs.Frames.{Frame, IsFrame}
+use Rattle.link_admission.specs.Admission.{Admits, AdmitsKind, admission, by_standing, is_full, look_ups as known_look_ups, refusal_by, too_many}
+use Rattle.link_admission.specs.Standings.{Known, Sends as SendsHandles, standing_of as known_standing}
+use Rattle.link_frames.specs.declared.kinds.FrameKind.{FrameKind}
+use Rattle.link_frames.specs.declared.kinds.FrameKind.TheVariants as kind
+use Rattle.link_frames.specs.declared.kinds.Refusal.{Refusal}
+use Rattle.link_frames.specs.declared.kinds.Refusal.TheVariants as refusal
+use Rattle.link_frames.specs.declared.kinds.Side.TheVariants.{ToServers}
+use Rattle.link_admission.specs.declared.kinds.Standing.TheVariants as standing
 use Rattle.vfs_journal.specs.Entries.{Journal, Sent, is_hang_up}
 use Rattle.vfs_journal.specs.History.{History, births, hung_up, is_bound, is_dead, is_live, living, waiting}
 use Rattle.vfs_journal.specs.Past.{history_of}

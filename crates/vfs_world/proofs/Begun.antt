@@ -11,8 +11,8 @@ use Rattle.std.proofs.lemmas.List.FromFn.{length-enumerate_from, length-map-rang
 use Rattle.std.proofs.lemmas.Option.{get_or_from_slice_get, same_Some, slice_get-map, slice_get_within}
 use Rattle.fidl_names.specs.HandleNumber.{end_of_mount, is_client}
 use Rattle.fidl_names.specs.declared.limits.TheConstants as limit
-use Rattle.endpoint_link.specs.Standings.{Known, Starts}
-use Rattle.endpoint_link.specs.Tables.{AreEachOnce}
+use Rattle.link_admission.specs.Standings.{Known, Starts}
+use Rattle.link_admission.specs.Tables.{AreEachOnce}
 use Rattle.session_start.specs.Accepted.{AreAccepted, IsClient}
 use Rattle.session_start.specs.Items.{ClientItem, Lists, MountItem}
 use Rattle.session_start.specs.Numbering.{tree_of}

@@ -4,7 +4,7 @@ use Rattle.std.specs.Option.{option_map_or}
 use Rattle.std.specs.Prelude.{slice_get}
 use Rattle.std.proofs.lemmas.Grind.{common_steps}
 use Rattle.std.proofs.lemmas.Option.{same_Some, slice_get_within}
-use Rattle.endpoint_link.specs.Numbering.{among}
+use Rattle.link_admission.specs.Numbering.{among}
 use Rattle.node_graph.specs.Tree.{after}
 use Rattle.conn_rules.specs.Births.{Position}
 use Rattle.vfs_journal.specs.History.{tree_at}

@@ -7,7 +7,7 @@ use Rattle.std.proofs.lemmas.List.Elements.{filter-append}
 use Rattle.std.proofs.lemmas.Option.{same_Some, slice_get_within}
 use Rattle.fidl_names.specs.declared.methods.Handle.{Handle}
 use Rattle.fidl_names.specs.HandleNumber.{is_client, number_of_handle}
-use Rattle.endpoint_link.specs.Standings.{Known, gone}
+use Rattle.link_admission.specs.Standings.{Known, gone}
 use Rattle.vfs_journal.specs.Handles.{numbers_of}
 use Rattle.vfs_server.specs.Binding.{Forgets}
 use Rattle.vfs_server.specs.Servers.{Server}

@@ -1,14 +1,14 @@
 -- The frames of a longer journal begin with those of its past.
 use Rattle.std.proofs.Common.{◌≡◌, ℕ, zero, suc, List, [], ◌∷◌, ◌++◌, Option, Some, None, refl, sym, ap, ◌∙◌, append_assoc, append-nil, fold}
 use Rattle.std.proofs.lemmas.List.Sums.{fold-append}
-use Rattle.endpoint_link.specs.Admission.{admission}
-use Rattle.endpoint_link.specs.Frames.{Frame}
-use Rattle.endpoint_link.specs.Numbers.{word_in}
-use Rattle.endpoint_link.specs.declared.kinds.FrameKind.{FrameKind}
-use Rattle.endpoint_link.specs.declared.kinds.FrameKind.TheVariants as kind
-use Rattle.endpoint_link.specs.declared.kinds.Mode.{Mode}
-use Rattle.endpoint_link.specs.declared.kinds.Mode.TheVariants as mode
-use Rattle.endpoint_link.specs.declared.kinds.Refusal.{Refusal}
+use Rattle.link_admission.specs.Admission.{admission}
+use Rattle.link_frames.specs.Frames.{Frame}
+use Rattle.link_frames.specs.Numbers.{word_in}
+use Rattle.link_frames.specs.declared.kinds.FrameKind.{FrameKind}
+use Rattle.link_frames.specs.declared.kinds.FrameKind.TheVariants as kind
+use Rattle.link_frames.specs.declared.kinds.Mode.{Mode}
+use Rattle.link_frames.specs.declared.kinds.Mode.TheVariants as mode
+use Rattle.link_frames.specs.declared.kinds.Refusal.{Refusal}
 use Rattle.vfs_journal.specs.Entries.{Entry, Journal, Sent, serves}
 use Rattle.vfs_journal.specs.History.{History}
 use Rattle.vfs_journal.specs.Outcomes.{Forwarded}

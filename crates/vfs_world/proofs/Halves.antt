@@ -2,9 +2,9 @@
 use Rattle.std.proofs.Common.{◌≡◌, ℕ, ◌+◌, ◌-◌, ◌≤◌, ◌<◌, ◌++◌, Bool, true, false, if◌then◌else◌, List, [], All, fold, append_assoc, refl, sym, ap, ◌∙◌, subst, arith}
 use Rattle.std.proofs.lemmas.List.Elements.{All-nil, All-weaker}
 use Rattle.fidl_names.specs.declared.limits.TheConstants as limit
-use Rattle.endpoint_link.specs.Frames.{spellings}
-use Rattle.endpoint_link.specs.Numbering.{among}
-use Rattle.endpoint_link.specs.Standings.{Known, ended, gone}
+use Rattle.link_frames.specs.Frames.{spellings}
+use Rattle.link_admission.specs.Numbering.{among}
+use Rattle.link_admission.specs.Standings.{Known, ended, gone}
 use Rattle.vfs_journal.specs.Entries.{Sent}
 use Rattle.vfs_journal.specs.Output.{Begins}
 use Rattle.journal_laws.specs.Viewing.{view_behind}

@@ -7,15 +7,15 @@ use Rattle.fidl_names.specs.First.{cause_if, first_of}
 use Rattle.fidl_names.specs.HandleNumber.{is_client}
 use Rattle.fidl_names.specs.declared.limits.TheConstants as limit
 use Rattle.fidl_wire.specs.Names.{AreDistinct}
-use Rattle.endpoint_link.specs.Admission.{Admits, AdmitsKind, admission, all_may_travel, by_standing, is_full, look_ups as known_look_ups, refusal_by, too_many}
-use Rattle.endpoint_link.specs.Frames.{Frame, IsFrame, spelling}
-use Rattle.endpoint_link.specs.Numbers.{word_in}
-use Rattle.endpoint_link.specs.Standings.{Known}
-use Rattle.endpoint_link.specs.declared.kinds.FrameKind.{FrameKind}
-use Rattle.endpoint_link.specs.declared.kinds.FrameKind.TheVariants as kind
-use Rattle.endpoint_link.specs.declared.kinds.Refusal.{Refusal}
-use Rattle.endpoint_link.specs.declared.kinds.Refusal.TheVariants as refusal
-use Rattle.endpoint_link.specs.declared.kinds.Side.TheVariants.{ToServers}
+use Rattle.link_admission.specs.Admission.{Admits, AdmitsKind, admission, all_may_travel, by_standing, is_full, look_ups as known_look_ups, refusal_by, too_many}
+use Rattle.link_frames.specs.Frames.{Frame, IsFrame, spelling}
+use Rattle.link_frames.specs.Numbers.{word_in}
+use Rattle.link_admission.specs.Standings.{Known}
+use Rattle.link_frames.specs.declared.kinds.FrameKind.{FrameKind}
+use Rattle.link_frames.specs.declared.kinds.FrameKind.TheVariants as kind
+use Rattle.link_frames.specs.declared.kinds.Refusal.{Refusal}
+use Rattle.link_frames.specs.declared.kinds.Refusal.TheVariants as refusal
+use Rattle.link_frames.specs.declared.kinds.Side.TheVariants.{ToServers}
 use Rattle.vfs_journal.specs.Entries.{Journal, Sending, Sent, hang_up, message}
 use Rattle.vfs_journal.specs.Output.{refused_frame}
 use Rattle.vfs_journal.specs.Past.{history_of}

@@ -1,10 +1,10 @@
 -- A world goes on, and its places with those that are left stay few.
 use Rattle.std.proofs.Common.{◌≡◌, ℕ, ◌+◌, ◌≤◌, ◌∷◌, Some, None, sym, ◌∙◌, subst, arith}
 use Rattle.fidl_names.specs.declared.limits.TheConstants as limit
-use Rattle.endpoint_link.specs.Admission.{admission}
-use Rattle.endpoint_link.specs.Frames.{Frame}
-use Rattle.endpoint_link.specs.declared.kinds.FrameKind.TheVariants as kind
-use Rattle.endpoint_link.specs.declared.kinds.Refusal.{Refusal}
+use Rattle.link_admission.specs.Admission.{admission}
+use Rattle.link_frames.specs.Frames.{Frame}
+use Rattle.link_frames.specs.declared.kinds.FrameKind.TheVariants as kind
+use Rattle.link_frames.specs.declared.kinds.Refusal.{Refusal}
 use Rattle.vfs_journal.specs.Entries.{Sent, hang_up, message, refuses, sends}
 use Rattle.vfs_journal.specs.Past.{history_of}
 use Rattle.vfs_journal.specs.Session.{after_serving, look_ups, sent_behind}

@@ -7,7 +7,7 @@ use Rattle.std.proofs.lemmas.List.Folds.{list_any-append}
 use Rattle.std.proofs.lemmas.List.Quantifiers.{all_pairs_push}
 use Rattle.fidl_names.specs.HandleNumber.{is_client}
 use Rattle.fidl_names.specs.declared.limits.TheConstants as limit
-use Rattle.endpoint_link.specs.Numbering.{among}
+use Rattle.link_admission.specs.Numbering.{among}
 use Rattle.vfs_journal.specs.Entries.{Sent, handles_of}
 use Rattle.vfs_journal.specs.Fit.{IsFit}
 use Rattle.vfs_journal.specs.Outcomes.{Forwarded, Given}

@@ -5,9 +5,9 @@ use Rattle.std.specs.Option.{option_map}
 use Rattle.std.proofs.lemmas.Bool.{eqb-true}
 use Rattle.std.proofs.lemmas.List.Elements.{All-contains, All-contains_itself, All-weaker}
 use Rattle.std.proofs.lemmas.Option.{none-some, same_Some}
-use Rattle.endpoint_link.specs.Frames.{spellings}
-use Rattle.endpoint_link.specs.Numbering.{among}
-use Rattle.endpoint_link.specs.Standings.{next_token_of}
+use Rattle.link_frames.specs.Frames.{spellings}
+use Rattle.link_admission.specs.Numbering.{among}
+use Rattle.link_admission.specs.Standings.{next_token_of}
 use Rattle.conn_rules.specs.Births.{Position}
 use Rattle.vfs_journal.specs.Deaths.{first_deaths}
 use Rattle.vfs_journal.specs.Entries.{Journal, Sent, endpoints_in}

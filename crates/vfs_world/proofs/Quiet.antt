@@ -1,7 +1,7 @@
 -- A serving that leaves all others as they are: nobody dies, no token is spent, and nothing is sent on.
 use Rattle.std.proofs.Common.{◌≡◌, ℕ, ◌+◌, true, List, [], ◌++◌, fold, refl, sym, ap, ◌∙◌, subst, arith}
 use Rattle.std.proofs.lemmas.Bool.{true≢false}
-use Rattle.endpoint_link.specs.Standings.{Known, ended, gone}
+use Rattle.link_admission.specs.Standings.{Known, ended, gone}
 use Rattle.vfs_journal.specs.Entries.{Sent}
 use Rattle.message_queues.specs.Dying.{tokens_on}
 use Rattle.message_queues.specs.Queues.{Queues, count}

@@ -14,12 +14,12 @@ use Rattle.fidl_names.specs.HandleNumber.{is_client}
 use Rattle.io_messages.specs.Asked.{Asked}
 use Rattle.io_messages.specs.Requests.{request_of}
 use Rattle.io_messages.specs.declared.protocols.Protocol.TheVariants as protocol
-use Rattle.endpoint_link.specs.Frames.{Frame, IsFrame}
-use Rattle.endpoint_link.specs.Standings.{Known, Sends as SendsHandles, next_token_of, standing_of as known_standing}
-use Rattle.endpoint_link.specs.declared.kinds.FrameKind.{FrameKind}
-use Rattle.endpoint_link.specs.declared.kinds.Refusal.TheVariants as refusal
-use Rattle.endpoint_link.specs.declared.kinds.Side.TheVariants.{ToServers}
-use Rattle.endpoint_link.specs.declared.kinds.Standing.TheVariants as standing
+use Rattle.link_frames.specs.Frames.{Frame, IsFrame}
+use Rattle.link_admission.specs.Standings.{Known, Sends as SendsHandles, next_token_of, standing_of as known_standing}
+use Rattle.link_frames.specs.declared.kinds.FrameKind.{FrameKind}
+use Rattle.link_frames.specs.declared.kinds.Refusal.TheVariants as refusal
+use Rattle.link_frames.specs.declared.kinds.Side.TheVariants.{ToServers}
+use Rattle.link_admission.specs.declared.kinds.Standing.TheVariants as standing
 use Rattle.vfs_journal.specs.Entries.{Journal, Sending, Sent, handles_of, message}
 use Rattle.vfs_journal.specs.History.{waiting}
 use Rattle.vfs_journal.specs.Past.{history_of}

@@ -9,7 +9,7 @@ use Rattle.fidl_names.specs.declared.memory.NoMemory.{NoMemory}
 use Rattle.io_messages.specs.Asked.{Asked}
 use Rattle.io_messages.specs.Requests.{request_of}
 use Rattle.io_messages.specs.declared.protocols.Protocol.TheVariants as protocol
-use Rattle.endpoint_link.specs.Standings.{next_token_of}
+use Rattle.link_admission.specs.Standings.{next_token_of}
 use Rattle.vfs_journal.specs.Entries.{Sending, Sent, handles_of, message}
 use Rattle.vfs_journal.specs.Output.{Begins}
 use Rattle.vfs_journal.specs.Serving.{Moment, outcome_of_sending}

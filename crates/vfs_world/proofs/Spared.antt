@@ -1,7 +1,7 @@
 -- A serving of which nobody dies and by which nothing goes on: it may spend and give tokens.
 use Rattle.std.proofs.Common.{◌≡◌, ℕ, ◌+◌, false, Some, List, [], ◌++◌, fold, append-nil, refl, sym, ap, ◌∙◌, subst, arith}
 use Rattle.std.specs.FinMap as finite
-use Rattle.endpoint_link.specs.Standings.{Known, gone}
+use Rattle.link_admission.specs.Standings.{Known, gone}
 use Rattle.vfs_journal.specs.Entries.{Sent, tokens_in}
 use Rattle.message_queues.specs.Dying.{tokens_on}
 use Rattle.message_queues.specs.Queues.{Queues, count}

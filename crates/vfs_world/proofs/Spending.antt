@@ -10,8 +10,8 @@ use Rattle.std.proofs.lemmas.Cmp.{nat_cmp_total}
 use Rattle.std.proofs.lemmas.List.Elements.{All-contains}
 use Rattle.std.proofs.lemmas.List.Kept.{AllPairs-filter}
 use Rattle.fidl_names.specs.HandleNumber.{is_client}
-use Rattle.endpoint_link.specs.Numbering.{among}
-use Rattle.endpoint_link.specs.Standings.{Known, ended, given, gone}
+use Rattle.link_admission.specs.Numbering.{among}
+use Rattle.link_admission.specs.Standings.{Known, ended, given, gone}
 use Rattle.vfs_journal.specs.Entries.{Sent, handles_of, tokens_in}
 use Rattle.vfs_journal.specs.Fit.{IsFit}
 use Rattle.vfs_journal.specs.Outcomes.{Given}

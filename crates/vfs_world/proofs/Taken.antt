@@ -2,7 +2,7 @@
 use Rattle.std.proofs.Common.{◌≡◌, ℕ, ◌+◌, ◌-◌, ◌<◌, List, None, Some, ap, ◌∙◌, subst, sym, arith}
 use Rattle.std.specs.Prelude.{slice_get}
 use Rattle.fidl_names.specs.declared.limits.TheConstants as limit
-use Rattle.endpoint_link.specs.Standings.{next_token_of}
+use Rattle.link_admission.specs.Standings.{next_token_of}
 use Rattle.vfs_journal.specs.Entries.{Sent, handles_of}
 use Rattle.message_queues.specs.Queues.{count, server_of}
 use Rattle.vfs_server.specs.declared.fate.Fate.{Fate}

@@ -2,9 +2,9 @@
 use Rattle.std.proofs.Common.{◌≡◌, ℕ, ◌==◌, ◌||◌, Bool, true, false, not, List, ◌++◌, filter, Option, Some, None, option_to_list, refl, ap, ◌∙◌}
 use Rattle.std.specs.Option.{option_map, option_map_or}
 use Rattle.std.proofs.lemmas.List.Elements.{filter_agree}
-use Rattle.endpoint_link.specs.Numbering.{among}
+use Rattle.link_admission.specs.Numbering.{among}
 use Rattle.fidl_names.specs.HandleNumber.{end_of_mount}
-use Rattle.remote_forward.specs.Onward.{onward_bytes}
+use Rattle.conn_rules.specs.Onward.{onward_bytes}
 use Rattle.vfs_journal.specs.Deaths.{first_deaths, is_settled}
 use Rattle.vfs_journal.specs.Entries.{Sent, endpoints_in}
 use Rattle.vfs_journal.specs.Outcomes.{Forwarded, Outcome}

@@ -7,10 +7,10 @@ use Rattle.std.proofs.lemmas.Bool.{eqb-true, eq-eqb, or_right, true≢false}
 use Rattle.std.proofs.lemmas.Grind.{flat_map-append}
 use Rattle.std.proofs.lemmas.Option.{same_Some}
 use Rattle.std.proofs.lemmas.List.Elements.{All-cons, All-nil, All-weaker, All-contains_itself, filter_agree}
-use Rattle.endpoint_link.specs.Frames.{Frame, spelling, spellings}
-use Rattle.endpoint_link.specs.Numbering.{among}
+use Rattle.link_frames.specs.Frames.{Frame, spelling, spellings}
+use Rattle.link_admission.specs.Numbering.{among}
 use Rattle.fidl_names.specs.HandleNumber.{end_of_mount}
-use Rattle.remote_forward.specs.Onward.{onward_bytes}
+use Rattle.conn_rules.specs.Onward.{onward_bytes}
 use Rattle.conn_rules.specs.Births.{Position, fresh}
 use Rattle.vfs_journal.specs.Entries.{Sent, endpoints_in, handles_of, serves}
 use Rattle.vfs_journal.specs.Fit.{IsFit}

@@ -9,8 +9,8 @@ use Rattle.std.specs.Ordering.{eq_by_cmp, nat_cmp}
 use Rattle.std.proofs.lemmas.Bool.{eqb-true}
 use Rattle.std.proofs.lemmas.List.Elements.{All-nil}
 use Rattle.std.proofs.lemmas.List.Sums.{sum_by-cons}
-use Rattle.endpoint_link.specs.Numbering.{among}
-use Rattle.endpoint_link.specs.Standings.{Known, ended}
+use Rattle.link_admission.specs.Numbering.{among}
+use Rattle.link_admission.specs.Standings.{Known, ended}
 use Rattle.vfs_journal.specs.Entries.{Sent, endpoints_in, tokens_in}
 use Rattle.message_queues.specs.Dying.{AreDeaths, Buries, HasAll}
 use Rattle.message_queues.specs.Queues.{Mailbox, Queues, count, queue_of, server_of}

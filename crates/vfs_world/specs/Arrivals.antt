@@ -2,10 +2,10 @@
 use Rattle.std.specs.Prelude.{◌≡◌, ◌⊎◌, ◌≤◌, ◌<◌, ◌+◌, ℕ, true, IsSome, List, [], ◌∷◌, ◌++◌, None, Ok, OnOk, Option, Result, Some, slice_get, slice_set}
 use Rattle.fidl_names.specs.declared.limits.TheConstants as limit
 use Rattle.fidl_names.specs.HandleNumber.{is_client}
-use Rattle.endpoint_link.specs.Admission.{Admits, admission, look_ups}
-use Rattle.endpoint_link.specs.Frames.{Frame}
-use Rattle.endpoint_link.specs.declared.kinds.FrameKind.{FrameKind}
-use Rattle.endpoint_link.specs.declared.kinds.FrameKind.TheVariants as kind
+use Rattle.link_admission.specs.Admission.{Admits, admission, look_ups}
+use Rattle.link_frames.specs.Frames.{Frame}
+use Rattle.link_frames.specs.declared.kinds.FrameKind.{FrameKind}
+use Rattle.link_frames.specs.declared.kinds.FrameKind.TheVariants as kind
 use Rattle.vfs_journal.specs.Entries.{Journal, Sending, message}
 use Rattle.vfs_journal.specs.History.{waiting}
 use Rattle.vfs_journal.specs.Past.{history_of}

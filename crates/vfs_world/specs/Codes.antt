@@ -1,7 +1,7 @@
 -- The code by which worlds are told apart.
 use Rattle.std.specs.Prelude.{ℕ, Bool, List, refl}
 use Rattle.std.specs.Coded.{Coded, code_by, coded×, coded_ℕ, coded_bool, coded_list}
-use Rattle.endpoint_link.specs.Standings.{Known, known_code}
+use Rattle.link_admission.specs.Standings.{Known, known_code}
 use Rattle.message_queues.specs.Queues.{Queues, queues_code}
 use Rattle.vfs_server.specs.Codes.{server_code}
 use Rattle.vfs_server.specs.Servers.{Server}

@@ -1,9 +1,9 @@
 -- The two parts of a serving: what comes before the deaths, and what comes with them. No public clause needs these.
 use Rattle.std.specs.Prelude.{◌≡◌, ◌≤◌, ◌<◌, ◌+◌, ◌-◌, ◌^◌, ◌++◌, ◌∷◌, [], ℕ, All, List, drop, fold, None, Ok, slice_get, Some, true}
 use Rattle.fidl_names.specs.declared.limits.TheConstants as limit
-use Rattle.endpoint_link.specs.Frames.{spellings}
-use Rattle.endpoint_link.specs.Numbering.{among}
-use Rattle.endpoint_link.specs.Standings.{ended, gone, is_live, next_token_of, standing_of}
+use Rattle.link_frames.specs.Frames.{spellings}
+use Rattle.link_admission.specs.Numbering.{among}
+use Rattle.link_admission.specs.Standings.{ended, gone, is_live, next_token_of, standing_of}
 use Rattle.io_messages.specs.Asked.{Asked}
 use Rattle.io_messages.specs.Requests.{request_of}
 use Rattle.io_messages.specs.declared.protocols.Protocol.TheVariants as protocol

@@ -1,8 +1,8 @@
 -- Servings by their steps: what the steps of one say together, and servings one after another, as a Turn, a Pick and a drain make them. Of
 -- these a public clause needs served_in.
 use Rattle.std.specs.Prelude.{◌≡◌, ◌≤◌, ◌<◌, ◌+◌, ◌++◌, ℕ, zero, suc, false, is_some, List, drop, filter, fold, length, Some}
-use Rattle.endpoint_link.specs.Frames.{spellings}
-use Rattle.endpoint_link.specs.Standings.{ended, gone, next_token_of}
+use Rattle.link_frames.specs.Frames.{spellings}
+use Rattle.link_admission.specs.Standings.{ended, gone, next_token_of}
 use Rattle.vfs_journal.specs.Entries.{Journal, Sent}
 use Rattle.vfs_journal.specs.History.{served_by}
 use Rattle.vfs_journal.specs.View.{View}

@@ -1,6 +1,6 @@
 -- What a world stands for: one journal of a session over all servers of a start.
 use Rattle.std.specs.Prelude.{◌≡◌, ℕ, Bool, false, List, ◌++◌}
-use Rattle.endpoint_link.specs.Standings.{Known}
+use Rattle.link_admission.specs.Standings.{Known}
 use Rattle.vfs_journal.specs.Entries.{Journal}
 use Rattle.vfs_journal.specs.Lawful.{Lawful}
 use Rattle.vfs_journal.specs.Output.{output_of}

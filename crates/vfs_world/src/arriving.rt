@@ -2,10 +2,10 @@
 
 ghost use Rattle.std.specs.Prelude.{◌≡◌, ◌-◌};
 ghost use Rattle.fidl_names.specs.declared.limits.TheConstants as limit;
-ghost use Rattle.endpoint_link.specs.Frames.{IsFrame};
-ghost use Rattle.endpoint_link.specs.Numbers.{word_in};
-ghost use Rattle.endpoint_link.specs.Views.{frame_of, handle_numbers};
-ghost use Rattle.endpoint_link.specs.declared.kinds.Side.TheVariants as side;
+ghost use Rattle.link_frames.specs.Frames.{IsFrame};
+ghost use Rattle.link_frames.specs.Numbers.{word_in};
+ghost use Rattle.link_frames.specs.Views.{frame_of, handle_numbers};
+ghost use Rattle.link_frames.specs.declared.kinds.Side.TheVariants as side;
 ghost use Rattle.vfs_journal.specs.Handles.{AreByNumber, numbers_of};
 ghost use Rattle.vfs_journal.specs.Output.{Begins};
 ghost use Rattle.vfs_journal.specs.Session.{arrives, drained, steps};
@@ -14,8 +14,9 @@ ghost use Rattle.vfs_world.specs.World.{World};
 ghost use Rattle.vfs_world.specs.Arrivals.{Hears, IsAdmitted, IsFree, LeadsOn, LeavesNothing, ReachesOn, RunsOnAdmitted};
 
 use crate::session::Session;
-use endpoint_link::{AdmitFault, FrameKind, FrameView, Mode, Outbox, word_in};
 use fidl_names::{Handle, NoMemory};
+use link_admission::AdmitFault;
+use link_frames::{FrameKind, FrameView, Mode, Outbox, word_in};
 use message_queues::{Lent, Parcel, handles_in};
 
 /// Accepts a frame.

@@ -12,9 +12,9 @@ ghost use Rattle.vfs_world.specs.World.{StandsFor};
 ghost use Rattle.vfs_world.specs.Beginning.{BindsJust};
 
 use crate::session::Session;
-use endpoint_link::Endpoints;
 use fidl_names::{NoMemory, end_of_mount};
 use fidl_wire::{Ordinals, Out};
+use link_admission::Endpoints;
 use message_queues::Queues;
 use session_start::Start;
 use std::alloc::Global;

@@ -1,14 +1,14 @@
 //! The Close frames of the endpoints that die.
 
 ghost use Rattle.std.specs.Prelude.{◌≡◌, ◌++◌, not, filter, map, IfOk, OnOk};
-ghost use Rattle.endpoint_link.specs.Frames.{spellings};
+ghost use Rattle.link_frames.specs.Frames.{spellings};
 ghost use Rattle.vfs_journal.specs.Outcomes.{close_frame};
 ghost use Rattle.vfs_journal.specs.Output.{Begins, rising};
 ghost use Rattle.vfs_world.specs.ServingSteps.{closed_for, is_it};
 
 use crate::deaths::is_it;
-use endpoint_link::{FrameKind, Outbox, write_frame};
 use fidl_names::NoMemory;
+use link_frames::{FrameKind, Outbox, write_frame};
 use std::alloc::Global;
 
 /// Numbers once each, from the least on.

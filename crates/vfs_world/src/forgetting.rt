@@ -2,12 +2,12 @@
 
 ghost use Rattle.std.specs.Prelude.{◌≡◌, ◌++◌, false, fold, OnOk, Some};
 ghost use Rattle.std.specs.FinMap as finite;
-ghost use Rattle.endpoint_link.specs.Standings.{gone};
+ghost use Rattle.link_admission.specs.Standings.{gone};
 ghost use Rattle.vfs_journal.specs.Entries.{tokens_in};
 ghost use Rattle.vfs_world.specs.ServingSteps.{CanGo, ForgetsAll, ForgetsEach, known_told};
 
-use endpoint_link::Endpoints;
 use fidl_names::{NoMemory, is_client};
+use link_admission::Endpoints;
 use message_queues::Lent;
 use vfs_server::{Fate, Server};
 

@@ -15,8 +15,8 @@ ghost use Rattle.vfs_server.specs.KeptNodes.{kept_in};
 ghost use Rattle.vfs_world.specs.Running.{IsRunning, whole};
 ghost use Rattle.vfs_world.specs.World.{StandsFor};
 
-use endpoint_link::Endpoints;
 use fidl_wire::{Ordinals, Out};
+use link_admission::Endpoints;
 use message_queues::Queues;
 use std::alloc::Global;
 use vfs_server::Server;

@@ -1,7 +1,7 @@
 //! What becomes of endpoints: they are bound for what waits on them, or die.
 
 ghost use Rattle.std.specs.Prelude.{◌≡◌, ◌≢◌, ◌≤◌, ◌<◌, ℕ, true, All, AllPairs, List, None, OnOk, Some, fold, IfOk};
-ghost use Rattle.endpoint_link.specs.Standings.{ended, is_live, standing_of};
+ghost use Rattle.link_admission.specs.Standings.{ended, is_live, standing_of};
 ghost use Rattle.vfs_journal.specs.View.{View};
 ghost use Rattle.message_queues.specs.Dying.{AreDeaths, Buries, tokens_on};
 ghost use Rattle.message_queues.specs.Queues.{count, server_of};
@@ -9,8 +9,8 @@ ghost use Rattle.vfs_server.specs.Holding.{HoldsAt};
 ghost use Rattle.vfs_world.specs.Holding.{HoldsEach};
 ghost use Rattle.vfs_world.specs.ServingSteps.{AreApart, BindsThere, bound_told, without_in};
 
-use endpoint_link::Endpoints;
 use fidl_names::NoMemory;
+use link_admission::Endpoints;
 use message_queues::{Buried, Queues};
 use std::alloc::Global;
 use vfs_server::{Fate, Server};

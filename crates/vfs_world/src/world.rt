@@ -1,8 +1,8 @@
 ghost use Rattle.std.specs.Prelude.{◌≡◌, ◌<◌, ◌+◌, true, false, [], None, IfOk, OnOk, Ok, is_ok, if◌then◌else◌, length, take};
 ghost use Rattle.fidl_names.specs.declared.limits.TheConstants as limit;
-ghost use Rattle.endpoint_link.specs.Frames.{IsFrame};
-ghost use Rattle.endpoint_link.specs.declared.kinds.Side.TheVariants as side;
-ghost use Rattle.endpoint_link.specs.Views.{frame_of};
+ghost use Rattle.link_frames.specs.Frames.{IsFrame};
+ghost use Rattle.link_frames.specs.declared.kinds.Side.TheVariants as side;
+ghost use Rattle.link_frames.specs.Views.{frame_of};
 ghost use Rattle.session_start.specs.Accepted.{AreAccepted, HasFilesOfBytes};
 ghost use Rattle.vfs_journal.specs.Entries.{Journal};
 ghost use Rattle.vfs_journal.specs.History.{waiting};
@@ -19,9 +19,9 @@ ghost use Rattle.vfs_world.specs.Conduct.{Conducts, KeepsOn, StandsForOne};
 use crate::arriving::hear;
 use crate::beginning::begin;
 use crate::session::Session;
-use endpoint_link::{FrameView, Mode, Outbox};
 use fidl_names::NoMemory;
 use fidl_wire::Ordinals;
+use link_frames::{FrameView, Mode, Outbox};
 use std::alloc::Global;
 use std::marker::Model;
 

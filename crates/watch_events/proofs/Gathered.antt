@@ -4,7 +4,7 @@ use Rattle.std.specs.Prelude.{nat_le, if◌then◌else◌}
 use Rattle.std.proofs.lemmas.List.{map-append}
 use Rattle.fidl_names.specs.declared.limits.TheConstants as limit
 use Rattle.path_walk.specs.Names.{dot}
-use Rattle.endpoint_link.specs.Frames.{Frame, spelling}
+use Rattle.link_frames.specs.Frames.{Frame, spelling}
 use Rattle.node_graph.specs.Graph.{Listed}
 use Rattle.watch_events.specs.Events.{event_bytes}
 use Rattle.watch_events.specs.Messages.{asks_for, existing, first_frames, gathered, idle, snapshot, watch_frame}

@@ -4,8 +4,8 @@ use Rattle.std.specs.Prelude.{◌+◌, Result, Ok, Err, OnErr, OnOk}
 use Rattle.std.proofs.Math.Seq.{take-append-add, take-append_seam}
 use Rattle.std.proofs.lemmas.List.{append-nil, flat_map_more, take-append-le, take_min}
 use Rattle.std.proofs.Math.Nat.{min-le_right}
-use Rattle.endpoint_link.specs.Frames.{Frame, spelling, spellings}
-use Rattle.endpoint_link.proofs.Runs.{spellings-append}
+use Rattle.link_frames.specs.Frames.{Frame, spelling, spellings}
+use Rattle.link_frames.proofs.Runs.{spellings-append}
 use Rattle.watch_events.specs.Events.{event_bytes}
 use Rattle.watch_events.specs.Messages.{Watcher, WritesFront, asks_for, told, watch_frame}
 

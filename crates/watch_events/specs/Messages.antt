@@ -2,8 +2,8 @@
 use Rattle.std.specs.Prelude.{◌≡◌, ℕ, ◌+◌, ◌==◌, Bool, nat_le, if◌then◌else◌, List, [], ◌∷◌, ◌++◌, length, map, filter, take}
 use Rattle.std.specs.Int.{bit_at}
 use Rattle.fidl_names.specs.declared.limits.TheConstants as limit
-use Rattle.endpoint_link.specs.Frames.{Frame, frame_with, spellings}
-use Rattle.endpoint_link.specs.declared.kinds.FrameKind.TheVariants as kind
+use Rattle.link_frames.specs.Frames.{Frame, frame_with, spellings}
+use Rattle.link_frames.specs.declared.kinds.FrameKind.TheVariants as kind
 use Rattle.path_walk.specs.Names.{dot}
 use Rattle.watch_events.specs.declared.watchers.WatchEvent.{WatchEvent}
 use Rattle.watch_events.specs.declared.watchers.WatchEvent.TheVariants as event

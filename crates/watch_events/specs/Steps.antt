@@ -1,6 +1,6 @@
 -- Words of steps: the two parts of what a new watcher is told. No public clause needs this.
 use Rattle.std.specs.Prelude.{ℕ, if◌then◌else◌, List, [], ◌∷◌, map}
-use Rattle.endpoint_link.specs.Frames.{Frame}
+use Rattle.link_frames.specs.Frames.{Frame}
 use Rattle.watch_events.specs.Events.{event_bytes}
 use Rattle.watch_events.specs.Messages.{asks_for, existing, idle, snapshot, watch_frame}
 

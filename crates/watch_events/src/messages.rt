@@ -1,14 +1,14 @@
 //! The messages to watchers, as `Directory.Watch` of `fuchsia.io` has them.
 
 ghost use Rattle.std.specs.Prelude.{◌≡◌, ◌≤◌, ◌<◌, ◌+◌, ◌++◌, [], All, OnErr, OnOk, drop, false, length, map, nat_le, true};
-ghost use Rattle.endpoint_link.specs.Frames.{spelling, spellings};
+ghost use Rattle.link_frames.specs.Frames.{spelling, spellings};
 ghost use Rattle.fidl_names.specs.declared.limits.TheConstants as limit;
 ghost use Rattle.watch_events.specs.Events.{event_bytes};
 ghost use Rattle.watch_events.specs.Messages.{WritesFront, asks_for, first_frames, watch_frame};
 ghost use Rattle.watch_events.specs.Steps.{idle_told, names_told};
 
-use endpoint_link::{Outbox, write_message};
 use fidl_names::{MAX_CHUNK, NoMemory};
+use link_frames::{Outbox, write_message};
 use node_graph::Names;
 use std::marker::Model;
 

@@ -1,15 +1,15 @@
 //! The watchers of one directory.
 
 ghost use Rattle.std.specs.Prelude.{◌≡◌, ◌≤◌, ◌<◌, ◌++◌, ◌∷◌, [], ◌==◌, false, not, OnErr, OnOk, filter, length, map};
-ghost use Rattle.endpoint_link.specs.Frames.{spellings};
+ghost use Rattle.link_frames.specs.Frames.{spellings};
 ghost use Rattle.fidl_names.specs.declared.limits.TheConstants as limit;
 ghost use Rattle.watch_events.specs.Messages.{Watcher, WritesFront, asks_for, watch_frame};
 ghost use Rattle.watch_events.specs.Watching.{is_among};
 
 use crate::messages::asks_for;
-use endpoint_link::{Outbox, write_message};
 use fidl_names::NoMemory;
 use indexmap::IndexMap;
+use link_frames::{Outbox, write_message};
 use std::alloc::Global;
 use std::marker::Model;
 

@@ -4,15 +4,15 @@ ghost use Rattle.std.specs.Prelude.{◌≡◌, ◌≤◌, ◌<◌, ◌++◌, fal
 ghost use Rattle.std.specs.BTreeMap.{UpdatesBy};
 ghost use Rattle.std.specs.FinMap as finite;
 ghost use Rattle.std.specs.Ordering.{nat_cmp};
-ghost use Rattle.endpoint_link.specs.Frames.{spellings};
+ghost use Rattle.link_frames.specs.Frames.{spellings};
 ghost use Rattle.fidl_names.specs.declared.limits.TheConstants as limit;
 ghost use Rattle.watch_events.specs.Messages.{WritesFront, number_of, told};
 ghost use Rattle.watch_events.specs.Watching.{Adds, Removes, is_among, watchers_of};
 
 use crate::messages::put_event;
 use crate::row::Row;
-use endpoint_link::Outbox;
 use fidl_names::{MAX_NAME, NoMemory};
+use link_frames::Outbox;
 use std::alloc::Global;
 use std::collections::BTreeMap;
 use std::marker::Model;

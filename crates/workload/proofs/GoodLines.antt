@@ -4,7 +4,7 @@ use Rattle.std.specs.Prelude.{⊤}
 use Rattle.std.specs.Str.{is_utf8}
 use Rattle.std.proofs.lemmas.Bool.Decides.{nat_tests}
 use Rattle.fidl_names.specs.First.{first_of}
-use Rattle.endpoint_link.specs.declared.kinds.Mode.TheVariants as mode
+use Rattle.link_frames.specs.declared.kinds.Mode.TheVariants as mode
 use Rattle.vfs_script.specs.Words.{space}
 use Rattle.vfs_script.specs.Lines.{Line, line_in, line_of, fits_at}
 use Rattle.vfs_script.specs.Scripts.{Numbered, bad_in, bad_line, bad_lines, is_bad, is_skipped, lines_of, mode_of, numbered_from, script_lines, script_mode, spoken, spoken_in}

@@ -1,6 +1,6 @@
 -- What holds of every generated workload.
 use Rattle.std.specs.Prelude.{◌≡◌, ◌≤◌, ◌+◌, ◌*◌, ℕ, length, Some, None}
-use Rattle.endpoint_link.specs.declared.kinds.Mode.TheVariants.{Auto}
+use Rattle.link_frames.specs.declared.kinds.Mode.TheVariants.{Auto}
 use Rattle.fidl_names.specs.declared.limits.TheConstants as limit
 use Rattle.vfs_script.specs.Scripts.{bad_line, frames_of, script_mode}
 use Rattle.workload.specs.Workload.{IsRounds, workload}

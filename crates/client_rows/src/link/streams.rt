@@ -1,5 +1,5 @@
 //! Streams that a deframer is fed in pieces of three sizes.
-use endpoint_link::{Deframer, FrameKind, FrameReason, Side};
+use link_frames::{Deframer, FrameKind, FrameReason, Side};
 use std::alloc::Global;
 use std::test::Fail;
 use test_rows::{Row, Table, all_hold};

@@ -2,18 +2,19 @@
 
 ghost use Rattle.std.specs.Prelude.{◌≡◌, ◌≤◌, ◌+◌, ◌-◌, ◌++◌, true, Err, IfSome, OnErr, OnOk, Some, length};
 ghost use Rattle.fidl_names.specs.declared.limits.TheConstants as limit;
-ghost use Rattle.endpoint_link.specs.Admission.{admission, look_ups};
-ghost use Rattle.endpoint_link.specs.Frames.{IsFrame, spelling};
-ghost use Rattle.endpoint_link.specs.Views.{frame_of, handle_numbers};
-ghost use Rattle.endpoint_link.specs.declared.kinds.Side.TheVariants as side;
+ghost use Rattle.link_admission.specs.Admission.{admission, look_ups};
+ghost use Rattle.link_frames.specs.Frames.{IsFrame, spelling};
+ghost use Rattle.link_frames.specs.Views.{frame_of, handle_numbers};
+ghost use Rattle.link_frames.specs.declared.kinds.Side.TheVariants as side;
 ghost use Rattle.vfs_journal.specs.Entries.{message};
 ghost use Rattle.vfs_journal.specs.Output.{Begins, refused_frame};
 ghost use Rattle.vfs_world.specs.Arrivals.{CanWait, IsAdmitted, IsFree, IsPlain, WaitsLast};
 ghost use Rattle.vfs_world.specs.Running.{IsRunning, whole};
 
 use crate::session::Session;
-use endpoint_link::{AdmitFault, FrameKind, FrameView, Outbox, Refusal, write_refused};
 use fidl_names::{NoMemory, is_client};
+use link_admission::AdmitFault;
+use link_frames::{FrameKind, FrameView, Outbox, Refusal, write_refused};
 use message_queues::{Parcel, Sent};
 
 impl Session {

@@ -2,7 +2,7 @@
 
 ghost use Rattle.std.specs.Prelude.{◌≡◌, ◌<◌, ◌^◌, ◌∷◌, [], ℕ, true, false, All, IfOk, IfSome, List, None, Ok, OnOk, Some, length, slice_get};
 ghost use Rattle.fidl_names.specs.declared.limits.TheConstants as limit;
-ghost use Rattle.endpoint_link.specs.Standings.{is_live, next_token_of, standing_of};
+ghost use Rattle.link_admission.specs.Standings.{is_live, next_token_of, standing_of};
 ghost use Rattle.io_messages.specs.Asked.{asked};
 ghost use Rattle.request_reader.specs.Parts.{AsksPart};
 ghost use Rattle.message_queues.specs.Dying.{AreDeaths};
@@ -24,12 +24,12 @@ use crate::deaths::{
 use crate::forgetting::{forget, give, spend};
 use crate::session::Session;
 use crate::settling::{bind, bury, let_all_go};
-use endpoint_link::Outbox;
+use conn_rules::forward;
 use fidl_names::{MAX_WAITING, NoMemory, end_of_mount};
 use fidl_wire::Ordinals;
 use io_messages::Request;
+use link_frames::Outbox;
 use message_queues::{Lent, Parcel, Sent};
-use remote_forward::forward;
 use request_reader::read_part;
 use std::mem;
 use vfs_server::{Fate, Message};

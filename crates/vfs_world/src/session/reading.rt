@@ -3,9 +3,9 @@
 
 ghost use Rattle.std.specs.Prelude.{◌≡◌, ◌≢◌, ◌<◌, ◌+◌, ◌-◌, ℕ, [], true, IfSome, None, Ok, OnErr, OnOk, Some, length};
 ghost use Rattle.fidl_names.specs.declared.limits.TheConstants as limit;
-ghost use Rattle.endpoint_link.specs.Frames.{IsFrame};
-ghost use Rattle.endpoint_link.specs.Views.{frame_of};
-ghost use Rattle.endpoint_link.specs.declared.kinds.Side.TheVariants as side;
+ghost use Rattle.link_frames.specs.Frames.{IsFrame};
+ghost use Rattle.link_frames.specs.Views.{frame_of};
+ghost use Rattle.link_frames.specs.declared.kinds.Side.TheVariants as side;
 ghost use Rattle.vfs_journal.specs.Entries.{Journal};
 ghost use Rattle.vfs_journal.specs.History.{waiting};
 ghost use Rattle.vfs_journal.specs.Output.{Begins};
@@ -21,10 +21,11 @@ ghost use Rattle.vfs_world.specs.Arrivals.{AnswersPart, CanBeServed};
 
 use crate::session::Session;
 use crate::session::admitting::is_plain;
-use endpoint_link::{FrameView, LookUp, Outbox};
 use fidl_names::{MAX_LIVE, NoMemory};
 use fidl_wire::{Ordinals, Out};
 use io_messages::Request;
+use link_admission::LookUp;
+use link_frames::{FrameView, Outbox};
 use request_reader::read_part;
 use vfs_server::Server;
 

@@ -9,8 +9,8 @@ ghost use Rattle.vfs_world.specs.Running.{IsRunning, RunsOn, whole};
 ghost use Rattle.vfs_world.specs.Servings.{IsDrain, IsPick, IsTurn};
 
 use crate::session::Session;
-use endpoint_link::Outbox;
 use fidl_names::NoMemory;
+use link_frames::Outbox;
 
 impl Session {
     /// Serves the oldest entries of a server's endpoints, at most so many, and tells how many it served.

@@ -1,6 +1,6 @@
 use Rattle.std.proofs.Common.{ℕ, map, take, sym, ap, ◌∙◌}
 use Rattle.fidl_names.specs.HandleNumber.{handle_with}
-use Rattle.endpoint_link.specs.Views.{handle_numbers}
+use Rattle.link_frames.specs.Views.{handle_numbers}
 use Rattle.io_messages.specs.Replies.{answered}
 use Rattle.io_replies.specs.Reading.{reply_of}
 use Rattle.io_client.proofs.Passing.{reply_of_other, reply_taken}

@@ -2,7 +2,7 @@ use Rattle.std.proofs.Common.{◌<◌, List, [], ◌∷◌, ◌++◌, length, ma
 use Rattle.std.proofs.lemmas.List.{length-set, take_more, take_more_set, map-append}
 use Rattle.fidl_names.specs.declared.methods.Handle.{Handle}
 use Rattle.fidl_names.specs.HandleNumber.{handle_with}
-use Rattle.endpoint_link.specs.Views.{handle_numbers}
+use Rattle.link_frames.specs.Views.{handle_numbers}
 use Rattle.io_client.proofs.client.put_handles.Goals as goal
 
 pub loop-place-preserved : goal.loop-place-preserved

@@ -1,6 +1,6 @@
 use Rattle.std.proofs.Common.{◌≡◌, length, map, take}
 use Rattle.fidl_names.specs.HandleNumber.{handle_with}
-use Rattle.endpoint_link.specs.Views.{handle_numbers}
+use Rattle.link_frames.specs.Views.{handle_numbers}
 use Rattle.io_client.proofs.client.put_handles.Given as goal
 
 abbrev pub invariant-loop-place : goal.invariant-loop-place

@@ -1,6 +1,6 @@
 use Rattle.std.proofs.Common.{rules}
-use Rattle.endpoint_link.specs.declared.kinds.Side.TheVariants as side
-use Rattle.endpoint_link.specs.Views.{frame_of}
+use Rattle.link_frames.specs.declared.kinds.Side.TheVariants as side
+use Rattle.link_frames.specs.Views.{frame_of}
 use Rattle.link_audit.proofs.Lent.{no_in_kind, no_in_read, none_read}
 use Rattle.link_audit.proofs.records.in_front.Goals as goal
 

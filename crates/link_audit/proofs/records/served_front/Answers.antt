@@ -1,5 +1,5 @@
 use Rattle.std.proofs.Common.{◌∷◌, ℕ, subst, sym}
-use Rattle.endpoint_link.proofs.Words.{are_bytes}
+use Rattle.link_frames.proofs.Words.{are_bytes}
 use Rattle.link_audit.specs.Fronts.{Shows}
 use Rattle.link_audit.specs.declared.records.Record.TheVariants as lent
 use Rattle.link_audit.proofs.Lent.{shows_served}

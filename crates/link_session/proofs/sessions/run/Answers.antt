@@ -1,7 +1,7 @@
 use Rattle.std.proofs.Common.{arith, ◌≡◌, ◌≤◌, ◌+◌, ◌-◌, min, refl, sym, ap, ◌∙◌, subst, length, drop, length-drop, length-append, ◌++◌, inl, inr}
 use Rattle.fidl_names.specs.declared.limits.TheConstants as limit
-use Rattle.endpoint_link.specs.Frames.{IsPartial}
-use Rattle.endpoint_link.proofs.Streams.{partial_short}
+use Rattle.link_frames.specs.Frames.{IsPartial}
+use Rattle.link_frames.proofs.Streams.{partial_short}
 use Rattle.run_status.specs.Outside.{Streams, streams_told}
 use Rattle.link_session.proofs.Progress.{Grown-partial, Progress-none, Progress-heard, Progress-ended, Progress-passed, Progress-kept, Progress-stands, heard_part}
 use Rattle.link_session.proofs.SessionEnds.{rose_since, unheard, ended_whole, ended_inside, long, bad}

@@ -1,7 +1,7 @@
 use Rattle.std.proofs.Common.{◌≡◌, ◌≤◌, ◌+◌, ◌-◌, ◌⊎◌, [], length}
 use Rattle.fidl_names.specs.declared.limits.TheConstants as limit
 use Rattle.host_io.specs.Streams.{IsFlushed}
-use Rattle.endpoint_link.specs.Frames.{IsPartial}
+use Rattle.link_frames.specs.Frames.{IsPartial}
 use Rattle.link_session.specs.Serving.{IsGrowing}
 use Rattle.link_session.specs.Session.{Course}
 use Rattle.link_session.proofs.Progress.{Progress}

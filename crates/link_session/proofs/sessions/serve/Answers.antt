@@ -1,8 +1,8 @@
 use Rattle.std.proofs.Common.{arith, [], ◌+◌, ◌++◌, length, drop, length-drop, length-append, ap, refl}
 use Rattle.std.proofs.lemmas.List.{take_rest}
 use Rattle.std.proofs.KnownBytes.{Appends-nil}
-use Rattle.endpoint_link.specs.Frames.{spelling}
-use Rattle.endpoint_link.specs.Views.{IsWholeFront, frame_of}
+use Rattle.link_frames.specs.Frames.{spelling}
+use Rattle.link_frames.specs.Views.{IsWholeFront, frame_of}
 use Rattle.link_session.proofs.Progress.{heard_part}
 use Rattle.link_session.proofs.ServingLemmas.{Heard-none, Heard-pass, Heard-more, Heard-stands, spelling_long}
 use Rattle.link_session.proofs.sessions.serve.Goals as goal

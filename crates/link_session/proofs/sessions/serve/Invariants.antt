@@ -1,5 +1,5 @@
 use Rattle.std.proofs.Common.{◌≡◌, ◌≤◌, ◌<◌, ◌+◌, ◌-◌, length, List}
-use Rattle.endpoint_link.specs.Frames.{Frame}
+use Rattle.link_frames.specs.Frames.{Frame}
 use Rattle.fidl_names.specs.declared.limits.TheConstants as limit
 use Rattle.link_session.specs.Serving.{Heard}
 use Rattle.link_session.specs.Session.{Course}

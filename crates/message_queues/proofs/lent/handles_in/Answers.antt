@@ -1,5 +1,5 @@
 use Rattle.std.proofs.Common.{◌≤◌, ◌<◌, length, ap, ◌∙◌, arith}
-use Rattle.endpoint_link.specs.Views.{handle_numbers}
+use Rattle.link_frames.specs.Views.{handle_numbers}
 use Rattle.vfs_journal.specs.Handles.{numbers_of}
 use Rattle.message_queues.proofs.Handles.{are_by_number, numbers_back, taken_all, taken_more}
 use Rattle.message_queues.proofs.lent.handles_in.Goals as goal

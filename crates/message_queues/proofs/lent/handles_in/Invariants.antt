@@ -1,5 +1,5 @@
 use Rattle.std.proofs.Common.{◌≡◌, take, map}
-use Rattle.endpoint_link.specs.Views.{handle_numbers}
+use Rattle.link_frames.specs.Views.{handle_numbers}
 use Rattle.fidl_names.specs.HandleNumber.{handle_with}
 use Rattle.message_queues.proofs.lent.handles_in.Given as goal
 

@@ -1,7 +1,7 @@
 use Rattle.std.proofs.Common.{◌≤◌, ◌∙◌, refl, ap, sym, subst, arith, length, length-append, length-drop, inl}
-use Rattle.endpoint_link.specs.Frames.{IsPartial}
-use Rattle.endpoint_link.specs.declared.kinds.Side.TheVariants.{Any}
-use Rattle.endpoint_link.proofs.Streams.{partial_short}
+use Rattle.link_frames.specs.Frames.{IsPartial}
+use Rattle.link_frames.specs.declared.kinds.Side.TheVariants.{Any}
+use Rattle.link_frames.proofs.Streams.{partial_short}
 use Rattle.mirror_program.specs.declared.reading.Taken.TheVariants as taken
 use Rattle.mirror_program.proofs.Progressing.{bad_events, bad_frame, heard_fits, read_nothing, reads_on, taking_of}
 use Rattle.mirror_program.proofs.reading.take_all.Goals as goal

@@ -1,7 +1,7 @@
 use Rattle.std.proofs.Common.{◌≡◌, ◌≤◌, ◌-◌, length, None}
 use Rattle.fidl_names.specs.declared.limits.TheConstants as limit
-use Rattle.endpoint_link.specs.Frames.{IsPartial}
-use Rattle.endpoint_link.specs.declared.kinds.Side.TheVariants.{Any}
+use Rattle.link_frames.specs.Frames.{IsPartial}
+use Rattle.link_frames.specs.declared.kinds.Side.TheVariants.{Any}
 use Rattle.link_session.proofs.Progress.{Progress}
 use Rattle.mirror_program.specs.Steps.{IsCopyOf, silent}
 use Rattle.mirror_program.proofs.reading.take_all.Given as goal

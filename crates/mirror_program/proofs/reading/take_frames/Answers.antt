@@ -1,7 +1,7 @@
 use Rattle.std.proofs.Common.{◌∙◌, subst, rules, arith, drop, length-drop}
 use Rattle.std.proofs.lemmas.List.{take_rest}
-use Rattle.endpoint_link.specs.Views.{IsWholeFront, frame_of}
-use Rattle.endpoint_link.specs.declared.kinds.Side.TheVariants.{Any}
+use Rattle.link_frames.specs.Views.{IsWholeFront, frame_of}
+use Rattle.link_frames.specs.declared.kinds.Side.TheVariants.{Any}
 use Rattle.dir_mirror.specs.Copies.{HasBadEvents, HasGoodEvents}
 use Rattle.mirror_program.proofs.Progressing.{front_fits, taken_more, taken_same}
 use Rattle.mirror_program.proofs.reading.take_frames.Goals as goal

@@ -1,5 +1,5 @@
 use Rattle.std.proofs.Common.{◌≡◌, ◌≤◌, ◌-◌, length, List}
-use Rattle.endpoint_link.specs.Frames.{Frame}
+use Rattle.link_frames.specs.Frames.{Frame}
 use Rattle.mirror_program.specs.Steps.{IsCopyOf, TakesTo}
 use Rattle.mirror_program.proofs.reading.take_frames.Given as goal
 

@@ -1,5 +1,5 @@
 use Rattle.std.proofs.Common.{rules, ◌∙◌, subst}
-use Rattle.endpoint_link.specs.declared.kinds.Mode.{Mode}
+use Rattle.link_frames.specs.declared.kinds.Mode.{Mode}
 use Rattle.vfs_journal.specs.Starts.{start_of}
 use Rattle.script_session.specs.Measured.{Measures, output_frames}
 use Rattle.script_session.proofs.Metering.{if_ok, metered_first}

@@ -1,6 +1,6 @@
 use Rattle.std.proofs.Common.{rules, ◌∙◌, subst}
 use Rattle.std.specs.Io.KnownBytes.{Appends}
-use Rattle.endpoint_link.specs.declared.kinds.Mode.{Mode}
+use Rattle.link_frames.specs.declared.kinds.Mode.{Mode}
 use Rattle.host_io.specs.Streams.{AppendsPart}
 use Rattle.vfs_journal.specs.Starts.{start_of}
 use Rattle.script_session.specs.Playing.{transcript}

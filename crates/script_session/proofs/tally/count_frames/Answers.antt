@@ -1,7 +1,7 @@
 use Rattle.std.proofs.Common.{◌+◌, length, ap, sym, subst, arith}
 use Rattle.std.specs.Prelude.{⊤}
-use Rattle.endpoint_link.specs.Views.{frame_of}
-use Rattle.endpoint_link.specs.declared.kinds.Side.TheVariants as side
+use Rattle.link_frames.specs.Views.{frame_of}
+use Rattle.link_frames.specs.declared.kinds.Side.TheVariants as side
 use Rattle.script_session.proofs.Counting.{Read, all_counted, less_left, read_more}
 use Rattle.script_session.proofs.Stages.{rest_is}
 use Rattle.script_session.proofs.tally.count_frames.Goals as goal

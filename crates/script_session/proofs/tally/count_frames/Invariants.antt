@@ -1,7 +1,7 @@
 use Rattle.std.proofs.Common.{◌≡◌, ◌≤◌, ◌+◌, List, length}
 use Rattle.std.specs.Prelude.{All, ⊤}
-use Rattle.endpoint_link.specs.Frames.{Frame, IsFrame, spellings}
-use Rattle.endpoint_link.specs.declared.kinds.Side.TheVariants as side
+use Rattle.link_frames.specs.Frames.{Frame, IsFrame, spellings}
+use Rattle.link_frames.specs.declared.kinds.Side.TheVariants as side
 use Rattle.script_session.proofs.Counting.{Read}
 use Rattle.script_session.proofs.tally.count_frames.Given as goal
 

@@ -1,5 +1,5 @@
 use Rattle.std.proofs.Common.{refl, inr}
-use Rattle.endpoint_link.specs.declared.kinds.Side.TheVariants.{Any}
+use Rattle.link_frames.specs.declared.kinds.Side.TheVariants.{Any}
 use Rattle.vfs_program.specs.Shown.{lines_course}
 use Rattle.vfs_program.proofs.ShowLemmas.{cut_at_once, lines_grow, lines_starve}
 use Rattle.vfs_program.proofs.lines.show.Goals as goal

@@ -1,4 +1,4 @@
-use Rattle.endpoint_link.specs.Views.{frame_of}
+use Rattle.link_frames.specs.Views.{frame_of}
 use Rattle.vfs_program.proofs.TreeLemmas.{hears}
 use Rattle.vfs_program.proofs.serving.hear.Goals as goal
 

@@ -1,5 +1,5 @@
 use Rattle.std.proofs.Common.{[], refl, sym, ap, subst, inl, inr}
-use Rattle.endpoint_link.specs.declared.kinds.Mode.{Mode}
+use Rattle.link_frames.specs.declared.kinds.Mode.{Mode}
 use Rattle.vfs_journal.specs.Starts.{start_of}
 use Rattle.vfs_program.specs.TreeSession.{tree_course, StandsBehind}
 use Rattle.vfs_program.proofs.Outputs.{tree_grows}

@@ -1,5 +1,5 @@
 use Rattle.std.proofs.Common.{arith}
-use Rattle.endpoint_link.specs.Views.{handle_numbers}
+use Rattle.link_frames.specs.Views.{handle_numbers}
 use Rattle.vfs_script.proofs.PrintLemmas.{grown, handles_grow}
 use Rattle.vfs_script.proofs.printing.put_handles.Goals as goal
 

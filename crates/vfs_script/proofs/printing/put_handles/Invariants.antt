@@ -1,5 +1,5 @@
 use Rattle.std.proofs.Common.{◌≡◌, ◌++◌, length, take}
-use Rattle.endpoint_link.specs.Views.{handle_numbers}
+use Rattle.link_frames.specs.Views.{handle_numbers}
 use Rattle.vfs_script.specs.Transcripts.{handles_text}
 use Rattle.vfs_script.proofs.printing.put_handles.Given as goal
 

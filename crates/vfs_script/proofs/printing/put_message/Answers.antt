@@ -1,6 +1,6 @@
 use Rattle.std.specs.Prelude.{codes}
 use Rattle.std.proofs.lemmas.Result.{on_ok_weaker}
-use Rattle.endpoint_link.specs.Views.{handle_numbers}
+use Rattle.link_frames.specs.Views.{handle_numbers}
 use Rattle.vfs_script.specs.Transcripts.{bytes_text, handles_text, label_of}
 use Rattle.vfs_script.proofs.PrintLemmas.{grown, message_put}
 use Rattle.vfs_script.proofs.printing.put_message.Goals as goal

@@ -4,10 +4,10 @@ use Rattle.std.specs.Result.{OnOk}
 use Rattle.fidl_names.specs.declared.methods.Handle.{Handle}
 use Rattle.fidl_names.specs.StatusNumber.{number_of}
 use Rattle.fidl_wire.specs.Epitaphs.{epitaph_bytes}
-use Rattle.endpoint_link.specs.Frames.{frame_with, spellings}
+use Rattle.link_frames.specs.Frames.{frame_with, spellings}
 use Rattle.vfs_journal.specs.Handles.{numbers_of}
 use Rattle.vfs_journal.specs.Outcomes.{close_frame}
-use Rattle.endpoint_link.specs.declared.kinds.FrameKind.TheVariants as kind
+use Rattle.link_frames.specs.declared.kinds.FrameKind.TheVariants as kind
 use Rattle.vfs_server.proofs.frames.put_ending.Goals as goal
 
 pub returns-clause-written : goal.returns-clause-written

@@ -1,5 +1,5 @@
 use Rattle.std.proofs.Common.{◌≡◌, ◌++◌, OnOk, subst, sym}
-use Rattle.endpoint_link.specs.Frames.{spellings}
+use Rattle.link_frames.specs.Frames.{spellings}
 use Rattle.vfs_server.specs.declared.deed.Deed.{Deed}
 use Rattle.vfs_server.specs.Watched.{first_of}
 use Rattle.vfs_server.proofs.telling.put_first.Goals as goal

@@ -1,5 +1,5 @@
 use Rattle.std.proofs.Common.{◌≡◌, ◌++◌, List, OnOk, ap, subst}
-use Rattle.endpoint_link.specs.Frames.{Frame, spellings}
+use Rattle.link_frames.specs.Frames.{Frame, spellings}
 use Rattle.watch_events.specs.Messages.{first_frames}
 use Rattle.vfs_server.proofs.Told.{names_are}
 use Rattle.vfs_server.proofs.telling.put_names.Goals as goal

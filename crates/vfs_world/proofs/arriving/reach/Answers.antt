@@ -1,6 +1,6 @@
 use Rattle.std.proofs.Common.{◌-◌, arith}
 use Rattle.fidl_names.specs.declared.limits.TheConstants as limit
-use Rattle.endpoint_link.specs.Views.{frame_of}
+use Rattle.link_frames.specs.Views.{frame_of}
 use Rattle.vfs_journal.specs.Session.{arrives}
 use Rattle.vfs_world.specs.Running.{whole}
 use Rattle.vfs_world.proofs.Lasting.{lasts_more}

@@ -1,6 +1,6 @@
 use Rattle.std.proofs.Common.{◌-◌, ◌∙◌, Err, ap, arith}
 use Rattle.fidl_names.specs.declared.limits.TheConstants as limit
-use Rattle.endpoint_link.specs.Views.{frame_of}
+use Rattle.link_frames.specs.Views.{frame_of}
 use Rattle.vfs_journal.specs.Session.{arrives}
 use Rattle.message_queues.specs.Queues.{count, server_of}
 use Rattle.vfs_world.specs.Running.{whole}

@@ -1,7 +1,7 @@
 use Rattle.std.proofs.Common.{◌≡◌, ◌∙◌, ℕ, All, IfOk, List, Ok, Err, Result, arith, length, map, subst, sym, true}
 use Rattle.fidl_names.specs.HandleNumber.{is_client}
-use Rattle.endpoint_link.specs.Standings.{Known, Starts}
-use Rattle.endpoint_link.specs.Tables.{AreEachOnce}
+use Rattle.link_admission.specs.Standings.{Known, Starts}
+use Rattle.link_admission.specs.Tables.{AreEachOnce}
 use Rattle.vfs_journal.specs.Starts.{Bound, start_of}
 use Rattle.vfs_world.proofs.Begun.{clients_are, clients_distinct, few_live, knows}
 use Rattle.vfs_world.proofs.beginning.known_endpoints.Goals as goal

@@ -1,7 +1,7 @@
 -- The others, rising, are closed.
 use Rattle.std.proofs.Common.{◌≡◌, ◌∙◌, ◌++◌, ℕ, List, ap, map, subst}
 use Rattle.std.specs.Result.{OnOk}
-use Rattle.endpoint_link.specs.Frames.{spellings}
+use Rattle.link_frames.specs.Frames.{spellings}
 use Rattle.vfs_journal.specs.Outcomes.{close_frame}
 use Rattle.vfs_journal.specs.Output.{rising}
 use Rattle.vfs_world.proofs.closing.close_others.Goals as goal

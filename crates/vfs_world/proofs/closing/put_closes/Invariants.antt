@@ -1,5 +1,5 @@
 use Rattle.std.proofs.Common.{◌≡◌, ◌++◌, map, take}
-use Rattle.endpoint_link.specs.Frames.{spellings}
+use Rattle.link_frames.specs.Frames.{spellings}
 use Rattle.vfs_journal.specs.Outcomes.{close_frame}
 use Rattle.vfs_world.proofs.closing.put_closes.Given as goal
 

@@ -1,6 +1,6 @@
 use Rattle.std.proofs.Common.{◌∙◌, List, ℕ, fold, refl, ap, subst}
 use Rattle.std.proofs.lemmas.List.{take_all}
-use Rattle.endpoint_link.specs.Standings.{gone}
+use Rattle.link_admission.specs.Standings.{gone}
 use Rattle.vfs_world.specs.ServingSteps.{ForgetsAll}
 use Rattle.vfs_world.proofs.Forgotten.{next_goes, next_out, none_gone}
 use Rattle.vfs_world.proofs.forgetting.forget_all.Goals as goal

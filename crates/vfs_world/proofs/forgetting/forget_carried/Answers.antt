@@ -1,7 +1,7 @@
 use Rattle.std.proofs.Common.{◌≡◌, ◌∙◌, ℕ, Global, List, Vec, filter, fold, not, sym, ap, subst}
 use Rattle.std.proofs.lemmas.List.{take_all}
 use Rattle.fidl_names.specs.HandleNumber.{is_client}
-use Rattle.endpoint_link.specs.Standings.{gone}
+use Rattle.link_admission.specs.Standings.{gone}
 use Rattle.vfs_journal.specs.Entries.{tokens_in}
 use Rattle.vfs_server.specs.declared.server.Server.{Server}
 use Rattle.vfs_world.specs.ServingSteps.{CanGo, ForgetsAll}

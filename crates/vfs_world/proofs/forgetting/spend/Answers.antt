@@ -1,5 +1,5 @@
 use Rattle.std.proofs.Common.{◌∙◌, ap, fold, subst, sym}
-use Rattle.endpoint_link.specs.Standings.{Known, gone}
+use Rattle.link_admission.specs.Standings.{Known, gone}
 use Rattle.vfs_journal.specs.Entries.{tokens_in}
 use Rattle.vfs_world.specs.ServingSteps.{CanGo}
 use Rattle.vfs_world.proofs.Forgotten.{all_then, both_out, gone_then}

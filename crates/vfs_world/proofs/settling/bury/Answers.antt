@@ -1,5 +1,5 @@
 use Rattle.std.proofs.Common.{◌≡◌, ◌≢◌, ◌∙◌, ℕ, All, AllPairs, List, ap, arith, fold, subst, sym, true}
-use Rattle.endpoint_link.specs.Standings.{Known, ended, is_live, standing_of}
+use Rattle.link_admission.specs.Standings.{Known, ended, is_live, standing_of}
 use Rattle.vfs_world.specs.Holding.{HoldsEach}
 use Rattle.vfs_world.specs.ServingSteps.{without_in}
 use Rattle.vfs_world.proofs.Ending.{ended_known}

@@ -1,5 +1,5 @@
 use Rattle.std.proofs.Common.{◌≡◌, true, get_or, sym, subst}
-use Rattle.endpoint_link.specs.Standings.{Known, is_live, standing_of}
+use Rattle.link_admission.specs.Standings.{Known, is_live, standing_of}
 use Rattle.vfs_world.proofs.Ending.{still_live}
 use Rattle.vfs_world.proofs.settling.end_all.Goals as goal
 

@@ -1,5 +1,5 @@
 use Rattle.std.proofs.Common.{◌≡◌, fold, take}
-use Rattle.endpoint_link.specs.Standings.{ended}
+use Rattle.link_admission.specs.Standings.{ended}
 use Rattle.vfs_world.proofs.settling.end_all.Given as goal
 
 abbrev pub invariant-loop-endpoint : goal.invariant-loop-endpoint

@@ -1,5 +1,5 @@
 use Rattle.std.proofs.Common.{◌≡◌, List, subst}
-use Rattle.endpoint_link.specs.Frames.{Frame}
+use Rattle.link_frames.specs.Frames.{Frame}
 use Rattle.watch_events.specs.Messages.{WritesFront}
 use Rattle.watch_events.specs.Steps.{idle_told, names_told}
 use Rattle.watch_events.proofs.Gathered.{both_told, names_of}

@@ -1,5 +1,5 @@
 use Rattle.std.proofs.Common.{◌≡◌, ◌++◌, ◌∙◌, ℕ, List, [], OnOk, append-nil, subst, sym, true}
-use Rattle.endpoint_link.specs.Frames.{spelling, spellings}
+use Rattle.link_frames.specs.Frames.{spelling, spellings}
 use Rattle.watch_events.specs.Events.{event_bytes}
 use Rattle.watch_events.specs.Messages.{asks_for, idle, watch_frame}
 use Rattle.watch_events.specs.Steps.{idle_told}

@@ -1,6 +1,6 @@
 use Rattle.std.proofs.Common.{◌≡◌, ◌∙◌, All, List, sym, ap, subst}
 use Rattle.std.proofs.lemmas.List.Elements.{All-tail}
-use Rattle.endpoint_link.specs.Frames.{Frame}
+use Rattle.link_frames.specs.Frames.{Frame}
 use Rattle.node_graph.specs.Graph.{Listed}
 use Rattle.node_graph.specs.Listing.{listed}
 use Rattle.path_walk.specs.Names.{dot}

@@ -1,5 +1,5 @@
 use Rattle.std.proofs.Common.{rules}
-use Rattle.endpoint_link.specs.Views.{frame_of}
+use Rattle.link_frames.specs.Views.{frame_of}
 use Rattle.dir_mirror.proofs.Copied.{given, takes}
 use Rattle.dir_mirror.proofs.mirror.Mirror.take.Goals as goal
 

@@ -1,9 +1,9 @@
 use Rattle.std.proofs.Common.{◌++◌, ◌∙◌, ap, append-nil, refl, sym}
-use Rattle.endpoint_link.specs.Frames.{spelling}
-use Rattle.endpoint_link.specs.Gathering.{Gathered}
-use Rattle.endpoint_link.specs.Refusals.{refused_frame}
-use Rattle.endpoint_link.specs.Views.{frame_of}
-use Rattle.endpoint_link.specs.declared.kinds.FrameKind.{FrameKind}
+use Rattle.link_frames.specs.Frames.{spelling}
+use Rattle.link_frames.specs.Gathering.{Gathered}
+use Rattle.link_frames.specs.Refusals.{refused_frame}
+use Rattle.link_frames.specs.Views.{frame_of}
+use Rattle.link_frames.specs.declared.kinds.FrameKind.{FrameKind}
 use Rattle.file_session.specs.OneFile.{Standing, admitted}
 use Rattle.file_session.proofs.SessionLemmas.{outcome_refused, outcome_admitted, admitted_idle, hears_as, hears_none}
 use Rattle.file_session.proofs.one_file.Connection.hear.Goals as goal

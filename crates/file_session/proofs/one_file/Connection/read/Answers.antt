@@ -1,7 +1,7 @@
 use Rattle.std.proofs.Common.{◌++◌, ◌∙◌, ap, List, [], ℕ}
-use Rattle.endpoint_link.specs.Frames.{frame_with, spelling}
-use Rattle.endpoint_link.specs.Gathering.{Gathered}
-use Rattle.endpoint_link.specs.declared.kinds.FrameKind.TheVariants as kind
+use Rattle.link_frames.specs.Frames.{frame_with, spelling}
+use Rattle.link_frames.specs.Gathering.{Gathered}
+use Rattle.link_frames.specs.declared.kinds.FrameKind.TheVariants as kind
 use Rattle.file_session.proofs.ReadLemmas.{has_memory, is_served, read_is_heard, still_bound}
 use Rattle.file_session.proofs.one_file.Connection.read.Goals as goal
 

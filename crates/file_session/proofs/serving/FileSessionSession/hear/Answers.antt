@@ -1,5 +1,5 @@
 use Rattle.std.proofs.Common.{◌∙◌}
-use Rattle.endpoint_link.specs.Views.{frame_of}
+use Rattle.link_frames.specs.Views.{frame_of}
 use Rattle.file_session.specs.OneFile.{Standing, file_course, IsBehind}
 use Rattle.file_session.proofs.SessionLemmas.{file_next, retold}
 use Rattle.file_session.proofs.serving.FileSessionSession.hear.Goals as goal

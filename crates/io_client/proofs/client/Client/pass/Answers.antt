@@ -1,4 +1,4 @@
-use Rattle.endpoint_link.specs.Views.{frame_of}
+use Rattle.link_frames.specs.Views.{frame_of}
 use Rattle.io_client.proofs.Passing.{behind_quiet}
 use Rattle.io_client.proofs.client.Client.pass.Goals as goal
 

@@ -1,5 +1,5 @@
 use Rattle.std.proofs.Common.{sym, ap, ◌∙◌}
-use Rattle.endpoint_link.specs.Views.{frame_of}
+use Rattle.link_frames.specs.Views.{frame_of}
 use Rattle.fidl_wire.specs.Headers.{header_of}
 use Rattle.io_client.specs.Calls.{Calls, answered_at}
 use Rattle.io_client.proofs.Passing.{by_head}

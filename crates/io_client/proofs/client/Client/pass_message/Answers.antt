@@ -1,5 +1,5 @@
 use Rattle.std.proofs.Common.{sym, ap, ◌∙◌}
-use Rattle.endpoint_link.specs.Views.{frame_of}
+use Rattle.link_frames.specs.Views.{frame_of}
 use Rattle.io_client.specs.Calls.{Calls, is_watched}
 use Rattle.io_client.proofs.Passing.{behind_epitaph, behind_other, behind_watched}
 use Rattle.io_client.proofs.client.Client.pass_message.Goals as goal

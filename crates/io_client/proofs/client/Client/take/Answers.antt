@@ -1,6 +1,6 @@
 use Rattle.std.proofs.Common.{◌≡◌, sym, subst}
-use Rattle.endpoint_link.specs.Views.{frame_of}
-use Rattle.endpoint_link.specs.declared.kinds.FrameKind.{FrameKind}
+use Rattle.link_frames.specs.Views.{frame_of}
+use Rattle.link_frames.specs.declared.kinds.FrameKind.{FrameKind}
 use Rattle.io_client.specs.Taking.{calls_behind, taking}
 use Rattle.io_client.proofs.Passing.{behind_taken}
 use Rattle.io_client.proofs.client.Client.take.Goals as goal

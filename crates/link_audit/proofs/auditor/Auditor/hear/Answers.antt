@@ -1,5 +1,5 @@
 use Rattle.std.proofs.Common.{◌≡◌, ◌-◌, List, [], ◌∷◌, ◌++◌, ℕ, arith, drop, length, refl, subst, sym}
-use Rattle.endpoint_link.specs.Views.{frame_of}
+use Rattle.link_frames.specs.Views.{frame_of}
 use Rattle.vfs_world.specs.World.{LeadsTo}
 use Rattle.link_audit.specs.Auditing.{Audits}
 use Rattle.link_audit.specs.Records.{comes_in}

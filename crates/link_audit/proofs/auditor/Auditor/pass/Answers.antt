@@ -1,7 +1,7 @@
 use Rattle.std.proofs.Common.{◌≡◌, ◌∙◌, ◌++◌, ℕ, List, ap, drop, length, sym, true, false}
 use Rattle.std.proofs.lemmas.Bool.Decides.{Decides-eqb}
 use Rattle.std.proofs.lemmas.Slice.Eq.{starts_is}
-use Rattle.endpoint_link.specs.Frames.{spelling}
+use Rattle.link_frames.specs.Frames.{spelling}
 use Rattle.link_audit.specs.Auditing.{Auditing}
 use Rattle.link_audit.proofs.Reasons.{wrong_first}
 use Rattle.link_audit.proofs.Stepping.{next_in_front, passed_on}

@@ -1,5 +1,5 @@
 use Rattle.std.proofs.Common.{◌≡◌, ◌≤◌, ◌*◌, ◌^◌, ℕ, List}
-use Rattle.endpoint_link.specs.declared.kinds.Side.TheVariants as side
+use Rattle.link_frames.specs.declared.kinds.Side.TheVariants as side
 use Rattle.vfs_script.specs.Scripts.{frames_of}
 use Rattle.script_session.specs.Steps.{IsScript}
 use Rattle.script_session.proofs.Counting.{Read}

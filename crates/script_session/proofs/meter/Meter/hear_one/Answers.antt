@@ -1,4 +1,4 @@
-use Rattle.endpoint_link.specs.Views.{frame_of}
+use Rattle.link_frames.specs.Views.{frame_of}
 use Rattle.vfs_journal.specs.Session.{steps}
 use Rattle.script_session.proofs.Metering.{metered_on}
 use Rattle.script_session.proofs.meter.Meter.hear_one.Goals as goal

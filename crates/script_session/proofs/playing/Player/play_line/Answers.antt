@@ -1,5 +1,5 @@
 use Rattle.std.proofs.Common.{◌∷◌, ◌+◌, sym, subst}
-use Rattle.endpoint_link.specs.Views.{frame_of}
+use Rattle.link_frames.specs.Views.{frame_of}
 use Rattle.host_io.specs.Streams.{AppendsPart}
 use Rattle.vfs_script.specs.Scripts.{call_in}
 use Rattle.script_session.specs.Answering.{one_of, sends}

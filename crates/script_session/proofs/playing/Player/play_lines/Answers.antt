@@ -1,7 +1,7 @@
 use Rattle.std.proofs.Common.{◌<◌, ◌≤◌, ◌+◌, List, length, drop, refl, sym, ap, ◌∙◌, subst, arith}
 use Rattle.std.specs.Prelude.{slice_get}
-use Rattle.endpoint_link.specs.Views.{frame_of}
-use Rattle.endpoint_link.specs.declared.kinds.Mode.{Mode}
+use Rattle.link_frames.specs.Views.{frame_of}
+use Rattle.link_frames.specs.declared.kinds.Mode.{Mode}
 use Rattle.host_io.specs.Streams.{AppendsPart}
 use Rattle.vfs_script.specs.Scripts.{Spoken, call_in, count_calls, script_lines}
 use Rattle.script_session.specs.Telling.{IsTold}

@@ -1,5 +1,5 @@
 use Rattle.std.proofs.Common.{List, ℕ, ◌≡◌, ◌++◌, sym, ap, ◌∙◌, subst}
-use Rattle.endpoint_link.specs.Views.{frame_of}
+use Rattle.link_frames.specs.Views.{frame_of}
 use Rattle.vfs_script.specs.Transcripts.{frame_line}
 use Rattle.script_session.specs.Telling.{IsWithin, Knows, Scribe}
 use Rattle.script_session.proofs.Getting.{kind_behind, message_known, message_within, no_message_id, without_known}

@@ -1,10 +1,10 @@
 use Rattle.std.proofs.Common.{List, ℕ, ◌≡◌, ◌∷◌, ◌++◌, sym, ap, ◌∙◌, subst, arith}
 use Rattle.std.specs.Prelude.{All}
-use Rattle.endpoint_link.specs.Frames.{Frame, IsFrame, spellings}
-use Rattle.endpoint_link.specs.declared.kinds.Side.TheVariants as side
+use Rattle.link_frames.specs.Frames.{Frame, IsFrame, spellings}
+use Rattle.link_frames.specs.declared.kinds.Side.TheVariants as side
 use Rattle.script_session.specs.Answering.{gets}
 use Rattle.script_session.specs.Telling.{IsWithin, Knows}
-use Rattle.endpoint_link.specs.Views.{frame_of}
+use Rattle.link_frames.specs.Views.{frame_of}
 use Rattle.std.proofs.lemmas.Result.{err_from_is_err_and}
 use Rattle.host_io.specs.Causes.{Rose}
 use Rattle.host_io.specs.Streams.{AppendsPart}

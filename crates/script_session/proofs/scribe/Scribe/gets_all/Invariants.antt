@@ -1,6 +1,6 @@
 use Rattle.std.proofs.Common.{◌≡◌, ℕ, List, Option, All, length}
-use Rattle.endpoint_link.specs.Frames.{Frame, IsFrame, spellings}
-use Rattle.endpoint_link.specs.declared.kinds.Side.TheVariants as side
+use Rattle.link_frames.specs.Frames.{Frame, IsFrame, spellings}
+use Rattle.link_frames.specs.declared.kinds.Side.TheVariants as side
 use Rattle.script_session.specs.Answering.{Past}
 use Rattle.script_session.specs.Telling.{IsTold, IsWithin, Knows}
 use Rattle.script_session.specs.Transcript.{lines_of, with_frames}

@@ -1,5 +1,5 @@
 use Rattle.std.proofs.Common.{◌++◌, length, ap, ◌∙◌, subst, arith, length-append}
-use Rattle.endpoint_link.specs.Frames.{spellings}
+use Rattle.link_frames.specs.Frames.{spellings}
 use Rattle.sha2.specs.Hashers.{Holds256}
 use Rattle.script_session.proofs.Metering.{spelled_both}
 use Rattle.script_session.proofs.tally.Tally.take.Goals as goal

@@ -10,7 +10,7 @@ use Rattle.io_messages.specs.Protocols.{has_method}
 use Rattle.io_messages.specs.Requests.{Reads, has_txid, request_of}
 use Rattle.io_messages.specs.Shapes.{is_one_way}
 use Rattle.io_messages.proofs.Known.{method_asked}
-use Rattle.node_conn.proofs.Echoes.{read_text}
+use Rattle.file_conn.proofs.Echoes.{read_text}
 use Rattle.request_reader.proofs.Carrying.{carries}
 use Rattle.conn_rules.specs.Births.{Connection}
 use Rattle.conn_rules.specs.Served.{told_by}

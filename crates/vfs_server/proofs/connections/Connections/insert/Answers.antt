@@ -1,6 +1,6 @@
 use Rattle.std.proofs.Common.{Some, ap, ◌∙◌}
 use Rattle.std.specs.FinMap as finite
-use Rattle.endpoint_link.proofs.Tabled.{changes-table, map-insert}
+use Rattle.link_admission.proofs.Tabled.{changes-table, map-insert}
 use Rattle.vfs_server.proofs.connections.Connections.insert.Goals as goal
 
 pub returns-clause-inserted : goal.returns-clause-inserted

@@ -1,6 +1,6 @@
 use Rattle.std.proofs.Common.{None, sym, ap, ◌∙◌}
 use Rattle.std.specs.FinMap as finite
-use Rattle.endpoint_link.proofs.Tabled.{changes-table, get-table, map-remove}
+use Rattle.link_admission.proofs.Tabled.{changes-table, get-table, map-remove}
 use Rattle.vfs_server.proofs.connections.Connections.remove.Goals as goal
 
 pub returns-clause-given : goal.returns-clause-given

@@ -9,8 +9,8 @@ use Rattle.conn_rules.specs.declared.changes.Changes.{Changes}
 use Rattle.conn_rules.specs.Answers as news
 use Rattle.conn_rules.specs.Served.{key_at, told_by}
 use Rattle.node_graph.specs.Tree.{HasNameLength}
-use Rattle.endpoint_link.specs.Frames.{Frame, spellings}
-use Rattle.endpoint_link.proofs.Runs.{spellings-append}
+use Rattle.link_frames.specs.Frames.{Frame, spellings}
+use Rattle.link_frames.proofs.Runs.{spellings-append}
 use Rattle.watch_events.specs.Messages.{WritesFront}
 use Rattle.watch_events.specs.Messages as messages
 use Rattle.watch_events.proofs.Told.{for_want, front_behind, front_first, on_want}

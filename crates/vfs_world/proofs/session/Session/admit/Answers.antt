@@ -1,5 +1,5 @@
-use Rattle.endpoint_link.specs.Admission.{admission, look_ups}
-use Rattle.endpoint_link.specs.Views.{frame_of}
+use Rattle.link_admission.specs.Admission.{admission, look_ups}
+use Rattle.link_frames.specs.Views.{frame_of}
 use Rattle.vfs_world.specs.Running.{whole}
 use Rattle.vfs_world.proofs.Admitting.{admits_it, leaves_it, refused_why}
 use Rattle.vfs_world.proofs.session.Session.admit.Goals as goal

@@ -1,4 +1,4 @@
-use Rattle.endpoint_link.specs.Views.{frame_of}
+use Rattle.link_frames.specs.Views.{frame_of}
 use Rattle.vfs_world.specs.Running.{whole}
 use Rattle.vfs_world.proofs.Admitting.{lives, plain_admitted, plain_refused}
 use Rattle.vfs_world.proofs.session.Session.admit_free.Goals as goal

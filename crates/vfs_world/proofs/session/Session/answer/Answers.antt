@@ -1,6 +1,6 @@
 use Rattle.std.proofs.Common.{refl}
 use Rattle.std.proofs.lemmas.Option.{slice_get_read}
-use Rattle.endpoint_link.specs.Standings.{next_token_of}
+use Rattle.link_admission.specs.Standings.{next_token_of}
 use Rattle.vfs_world.proofs.Answered.{begins_by, can_take, hang_up_answers, served_answers}
 use Rattle.vfs_world.proofs.session.Session.answer.Goals as goal
 

@@ -1,6 +1,6 @@
 use Rattle.std.proofs.Common.{◌∙◌, ◌-◌, ℕ, ap, arith, sym, subst}
 use Rattle.std.proofs.lemmas.Option.{same_Some, slice_get_within}
-use Rattle.endpoint_link.specs.Standings.{Known, next_token_of}
+use Rattle.link_admission.specs.Standings.{Known, next_token_of}
 use Rattle.vfs_journal.specs.Entries.{Sent, handles_of}
 use Rattle.message_queues.specs.Queues.{Queues, count, server_of}
 use Rattle.vfs_server.specs.Servers.{Server}

@@ -1,6 +1,6 @@
 use Rattle.std.proofs.Common.{◌≡◌, ◌∷◌, [], true, refl}
 use Rattle.std.proofs.lemmas.List.Elements.{All-head}
-use Rattle.endpoint_link.specs.Standings.{is_live, standing_of}
+use Rattle.link_admission.specs.Standings.{is_live, standing_of}
 use Rattle.vfs_world.proofs.session.Session.bury_alone.Goals as goal
 
 pub ended-requires : goal.ended-requires

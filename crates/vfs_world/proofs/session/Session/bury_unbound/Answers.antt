@@ -1,6 +1,6 @@
 use Rattle.std.proofs.Common.{◌≡◌, ◌∙◌, ◌∷◌, [], sym, true}
 use Rattle.std.proofs.lemmas.List.Elements.{All-head}
-use Rattle.endpoint_link.specs.Standings.{is_live, standing_of}
+use Rattle.link_admission.specs.Standings.{is_live, standing_of}
 use Rattle.vfs_world.specs.Running.{whole}
 use Rattle.vfs_world.proofs.Unbound.{alone, dies_unbound}
 use Rattle.vfs_world.proofs.session.Session.bury_unbound.Goals as goal

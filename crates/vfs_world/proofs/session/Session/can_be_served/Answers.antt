@@ -2,7 +2,7 @@
 use Rattle.std.proofs.Common.{◌∙◌, ◌≤◌, sym, arith}
 use Rattle.std.proofs.lemmas.Bool.{eqb-true, leb-true}
 use Rattle.fidl_names.specs.declared.limits.TheConstants as limit
-use Rattle.endpoint_link.specs.Views.{frame_of}
+use Rattle.link_frames.specs.Views.{frame_of}
 use Rattle.vfs_world.specs.Arrivals.{IsPlain}
 use Rattle.vfs_world.proofs.session.Session.can_be_served.Goals.{then-is_plain, else-is_plain}
 use Rattle.vfs_world.proofs.session.Session.can_be_served.Goals as goal

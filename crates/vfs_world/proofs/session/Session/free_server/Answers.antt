@@ -1,7 +1,7 @@
 -- What is found is a server where the endpoint is bound.
 use Rattle.std.proofs.Common.{◌≡◌, ℕ, IfSome, None, Option, Some, sym, arith}
-use Rattle.endpoint_link.specs.Frames.{Frame}
-use Rattle.endpoint_link.specs.Views.{frame_of}
+use Rattle.link_frames.specs.Frames.{Frame}
+use Rattle.link_frames.specs.Views.{frame_of}
 use Rattle.message_queues.specs.Queues.{count, server_of}
 use Rattle.vfs_world.specs.Running.{whole}
 use Rattle.vfs_world.specs.World.{World}

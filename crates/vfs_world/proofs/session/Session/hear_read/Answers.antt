@@ -1,6 +1,6 @@
 use Rattle.std.proofs.Common.{◌∙◌, ◌-◌, [], List, append-nil, ap, arith, refl, sym}
 use Rattle.fidl_names.specs.declared.limits.TheConstants as limit
-use Rattle.endpoint_link.specs.Views.{frame_of}
+use Rattle.link_frames.specs.Views.{frame_of}
 use Rattle.io_messages.specs.Asked.{asked}
 use Rattle.vfs_server.specs.Servers.{Server}
 use Rattle.vfs_world.specs.Running.{whole}

@@ -1,5 +1,5 @@
 use Rattle.std.proofs.Common.{◌∙◌, ◌++◌, [], ℕ, List, Option, append-nil, refl, sym, ap, subst}
-use Rattle.endpoint_link.specs.Frames.{spellings}
+use Rattle.link_frames.specs.Frames.{spellings}
 use Rattle.vfs_journal.specs.Entries.{Sent}
 use Rattle.message_queues.specs.Dying.{AreDeaths}
 use Rattle.vfs_world.specs.Running.{whole}

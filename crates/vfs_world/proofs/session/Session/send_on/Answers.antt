@@ -3,7 +3,7 @@ use Rattle.std.proofs.Common.{[], ◌∷◌, ◌++◌, ◌∙◌, ℕ, List, Som
 use Rattle.vfs_journal.specs.Entries.{Sending, Sent, message}
 use Rattle.message_queues.specs.Queues.{Queues, Requeues, queue_of}
 use Rattle.fidl_wire.specs.Written.{Written}
-use Rattle.remote_forward.specs.Onward.{onward_bytes}
+use Rattle.conn_rules.specs.Onward.{onward_bytes}
 use Rattle.vfs_server.specs.declared.fate.Fate.{Fate}
 use Rattle.vfs_world.specs.ServingSteps.{SendsOn}
 use Rattle.vfs_world.proofs.session.Session.send_on.Goals as goal

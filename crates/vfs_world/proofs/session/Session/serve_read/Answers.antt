@@ -1,7 +1,7 @@
 use Rattle.std.proofs.Common.{◌∙◌, [], List, append-nil, ap, arith, refl, set, subst, sym}
 use Rattle.std.specs.Result.{OnOk}
 use Rattle.std.proofs.lemmas.Option.{slice_get_read, slice_get_within}
-use Rattle.endpoint_link.specs.Standings.{Known}
+use Rattle.link_admission.specs.Standings.{Known}
 use Rattle.io_messages.specs.Asked.{asked}
 use Rattle.vfs_server.specs.Servers.{Server}
 use Rattle.vfs_world.specs.Heads.{ServesTaken}

@@ -1,5 +1,5 @@
 use Rattle.std.proofs.Common.{◌≡◌, ◌∙◌, ◌+◌, ◌++◌, ℕ, List, fold, sym, ap, subst, arith}
-use Rattle.endpoint_link.specs.Standings.{Known, ended, gone}
+use Rattle.link_admission.specs.Standings.{Known, ended, gone}
 use Rattle.vfs_journal.specs.Entries.{Sent, tokens_in}
 use Rattle.message_queues.specs.Queues.{IsAbove, count}
 use Rattle.vfs_server.specs.Servers.{Server}

@@ -1,5 +1,0 @@
-use Rattle.std.proofs.Common.{◌==◌, ℕ, ap}
-use Rattle.body_reader.proofs.envelopes.has_no_flag.Goals as goal
-
-pub returns : goal.returns
-returns c = ap (λ (flags : ℕ). flags == 0) c.flags_at.ensures

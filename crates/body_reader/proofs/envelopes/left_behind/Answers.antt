@@ -1,5 +1,0 @@
-use Rattle.std.proofs.Common.{◌-◌, ℕ, ap}
-use Rattle.body_reader.proofs.envelopes.left_behind.Goals as goal
-
-pub returns : goal.returns
-returns c = ap (λ (count : ℕ). c.args.left - count) c.handles_at.ensures

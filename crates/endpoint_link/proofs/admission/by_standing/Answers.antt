@@ -1,6 +1,0 @@
-use Rattle.std.proofs.Common.{ap, sym}
-use Rattle.endpoint_link.specs.Admission.{by_standing}
-use Rattle.endpoint_link.proofs.admission.by_standing.Goals as goal
-
-pub returns-in-HungUp : goal.returns-in-HungUp
-returns-in-HungUp c = ap by_standing (sym c.in-HungUp.is)

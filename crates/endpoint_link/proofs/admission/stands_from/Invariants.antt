@@ -1,8 +1,0 @@
-use Rattle.std.specs.Prelude.{◌≡◌, drop}
-use Rattle.endpoint_link.specs.Views.{handle_numbers}
-use Rattle.endpoint_link.specs.Numbering.{among}
-use Rattle.endpoint_link.proofs.admission.stands_from.Given as goal
-
-abbrev pub invariant-loop-i : goal.invariant-loop-i
-invariant-loop-i l =
-    among l.number (drop l.i (handle_numbers l.handles)) ≡ among l.number (drop l.from (handle_numbers l.handles))

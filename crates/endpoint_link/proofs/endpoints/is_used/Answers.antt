@@ -1,6 +1,0 @@
-use Rattle.std.proofs.Common.{ap, sym}
-use Rattle.endpoint_link.specs.Standings.{is_used}
-use Rattle.endpoint_link.proofs.endpoints.is_used.Goals as goal
-
-pub returns-in-Dead : goal.returns-in-Dead
-returns-in-Dead c = ap is_used (sym c.in-Dead.is)

@@ -1,0 +1,5 @@
+pub mod Made
+pub mod Tabled
+pub mod Paged
+pub mod Counting
+pub mod Travelling

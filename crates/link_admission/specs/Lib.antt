@@ -1,0 +1,5 @@
+pub mod Numbering
+pub mod Tables
+pub mod Pages
+pub mod Standings
+pub mod Admission

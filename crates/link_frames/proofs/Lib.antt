@@ -1,0 +1,5 @@
+pub mod Words
+pub mod Spelled
+pub mod Streams
+pub mod Feeding
+pub mod Runs

@@ -1,4 +1,0 @@
-pub mod BegunListings
-pub mod Lengths
-pub mod Unions
-pub mod PutAtOnce

@@ -1,2 +1,0 @@
-mod Acts
-pub mod Echoes
