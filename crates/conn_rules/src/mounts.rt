@@ -1,3 +1,5 @@
+// For users of this library who keep where mounts go on in a table of their own. The servers here find it in their start.
+
 ghost use Rattle.std.specs.Prelude.{◌≡◌, ◌<◌, ◌≤◌, true, length, slice_get, IfOk, Some};
 ghost use Rattle.fidl_names.specs.HandleNumber.{end_of_mount, is_mount_end};
 

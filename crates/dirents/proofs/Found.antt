@@ -8,7 +8,7 @@ use Rattle.std.proofs.lemmas.List.Elements.{All-nil, All-cons, All-head, All-tai
 use Rattle.byteorder.specs.Endian.{little_number}
 use Rattle.fidl_names.specs.Numbers.{AreBytes}
 use Rattle.dirents.specs.declared.entries.Entries.{Entries}
-use Rattle.dirents.specs.declared.entries.Dirent as code
+use Rattle.dirents.specs.declared.dirent.Dirent as code
 use Rattle.dirents.specs.Listings.{Dirent, dirent_bytes}
 use Rattle.dirents.specs.Reading.{AreEntries, BytesHaveEntries, FitsFields, Gives, HasEntries, IsCut, entry_of, left}
 use Rattle.dirents.proofs.Numbers.{below_front, entry_read, entry_fits}

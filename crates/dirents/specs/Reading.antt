@@ -3,7 +3,7 @@ use Rattle.std.specs.Prelude.{◌≡◌, ℕ, ◌+◌, ◌^◌, ◌<◌, ◌⊎�
 use Rattle.std.specs.List.{flat_map}
 use Rattle.fidl_names.specs.Numbers.{AreBytes}
 use Rattle.dirents.specs.declared.entries.Entries.{Entries}
-use Rattle.dirents.specs.declared.entries.Dirent as code
+use Rattle.dirents.specs.declared.dirent.Dirent as code
 use Rattle.dirents.specs.Listings.{Dirent, dirent_bytes}
 
 -- no whole entry stands in front: the ninth byte is the length of its name

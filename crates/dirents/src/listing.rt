@@ -8,7 +8,7 @@ ghost use Rattle.dirents.specs.Listings.{listing, type_of};
 ghost use Rattle.dirents.specs.Reading.{entry_of};
 ghost use Rattle.dirents.specs.Steps.{HasEntryName, dot_at, name_at};
 
-use crate::entries::Dirent;
+use crate::dirent::Dirent;
 use crate::place::Place;
 use fidl_names::MAX_NAMES;
 use node_graph::{Graph, Names, NodeKind, NodeRef};

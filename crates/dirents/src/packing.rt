@@ -6,7 +6,7 @@ ghost use Rattle.dirents.specs.Packing.{Appends, Tells};
 ghost use Rattle.dirents.specs.Reading.{entry_of};
 ghost use Rattle.dirents.specs.Steps.{HasName, HasTaken};
 
-use crate::entries::Dirent;
+use crate::dirent::Dirent;
 use crate::listing::list_from;
 use crate::place::{Place, place_behind};
 use fidl_names::{MAX_BYTES, MAX_NAME, MAX_NAMES};

@@ -2,6 +2,7 @@
 #![tactic(auto)]
 
 mod changes;
+mod creating;
 mod cuts;
 mod edges;
 mod faults;
