@@ -1,5 +1,5 @@
 use Rattle.std.proofs.Common.{◌∙◌, append_assoc, arith}
-use Rattle.dirents.proofs.entries.Dirent.put.Goals as goal
+use Rattle.dirents.proofs.dirent.Dirent.put.Goals as goal
 
 pub returns : goal.returns
 returns c = record {
