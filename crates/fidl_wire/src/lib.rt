@@ -1,5 +1,5 @@
 //! FIDL wire format, version 2: headers, layouts and how they are spelled and read, outputs, epitaphs and the
-//! ordinals of names. `body_reader` reads the body of a message.
+//! ordinals of names. `Body` reads the body of a message.
 #![tactic(auto)]
 
 mod blanks;

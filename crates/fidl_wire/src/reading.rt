@@ -1,4 +1,4 @@
-//! Where the reading of a body stands, and what it finds of a union. The definitions speak of these, and `body_reader`
+//! Where the reading of a body stands, and what it finds of a union. The definitions speak of these, and `Body`
 //! reads by them.
 
 /// What lies out of line.

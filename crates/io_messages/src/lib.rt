@@ -1,6 +1,6 @@
 //! The methods of `fuchsia.io`, in this project's profile: which protocol has which, what a request asks, and
-//! what a reply or the event says. `request_reader` reads requests, `message_writer` writes all of them, and
-//! `io_replies` reads replies and the event.
+//! what a reply or the event says, and how all of them are written. `request_reader` reads requests, and `io_replies`
+//! reads replies and the event.
 #![tactic(auto)]
 
 mod failing;
