@@ -3,3 +3,4 @@ pub mod Carrying
 pub mod Taking
 pub mod WrittenRequests
 pub mod AskedParts
+pub mod ShortestRequests

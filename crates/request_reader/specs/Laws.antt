@@ -1,5 +1,5 @@
 -- What holds of every request and all handles.
-use Rattle.std.specs.Prelude.{◌≡◌, ℕ, ◌^◌, ◌<◌, true, List, Contains, Ok}
+use Rattle.std.specs.Prelude.{◌≡◌, ℕ, ◌^◌, ◌<◌, ◌≤◌, true, List, length, Contains, Ok}
 use Rattle.fidl_names.specs.declared.methods.Handle.{Handle}
 use Rattle.fidl_names.specs.declared.methods.Handle.TheVariants.{Endpoint}
 use Rattle.io_messages.specs.declared.protocols.Protocol.{Protocol}
@@ -47,3 +47,8 @@ RequestsAreFound =
 abbrev pub FoundRequestsAreRead : Type 0
 FoundRequestsAreRead =
     (p : Protocol) (bytes : List ℕ) (handles : List Handle) (t : ℕ) (a : Asked) → request_of p bytes handles ≡ Ok (t, a) → Reads p bytes handles t a
+
+-- no bytes that are a request are fewer than those that are written for it
+abbrev pub RequestsAreShortest : Type 0
+RequestsAreShortest =
+    (bytes : List ℕ) (handles : List Handle) (t : ℕ) (a : Asked) → IsAsked bytes handles t a → length (request_bytes t a) ≤ length bytes

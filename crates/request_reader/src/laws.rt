@@ -1,9 +1,11 @@
 //! Laws of requests. They compute nothing: what they say is in their clauses.
 
 ghost use Rattle.fidl_wire.specs.Names.{MethodsHaveTheirOwn};
-ghost use Rattle.request_reader.specs.Laws.{RequestsAreAskedOnce, RequestsAreReadOnce, RequestsAreFound, FoundRequestsAreRead, RequestsCarryTheirEndpoints, WrittenRequestsAreRead};
+ghost use Rattle.request_reader.specs.Laws.{RequestsAreAskedOnce, RequestsAreReadOnce, RequestsAreFound, FoundRequestsAreRead, RequestsAreShortest, RequestsCarryTheirEndpoints, WrittenRequestsAreRead};
 
-use wire_laws::{body_is_read_where_spelled, spelling_is_read, written_header_is_read};
+use wire_laws::{
+    body_is_read_where_spelled, spelling_is_read, spelling_is_shortest, written_header_is_read,
+};
 
 /// Bytes and handles are at most one request, whatever their endpoint speaks, where each method has
 /// an ordinal of its own.
@@ -33,4 +35,11 @@ pub fn written_request_is_read()
 {
     spelling_is_read();
     written_header_is_read();
+}
+
+/// What is written for a request is no longer than any bytes that are that request.
+pub fn written_request_is_shortest()
+    ensures { RequestsAreShortest }
+{
+    spelling_is_shortest();
 }
