@@ -16,7 +16,7 @@ use Rattle.node_graph.specs.declared.nodes.Entry.{Entry}
 use Rattle.node_graph.specs.Tree.{EdgeKey, EdgeTo, edge_cmp}
 use Rattle.node_graph.specs.Graph.{Listed, comes_after, listed_after}
 use Rattle.node_graph.specs.Refusals.{has_names}
-use Rattle.node_graph.specs.Ends.{Ends, IsNamed, edge_of, edges_of, ends_after, listed_of, name_in, start_of}
+use Rattle.node_graph.specs.Ends.{Ends, HasName, IsNamed, edge_of, edges_of, ends_after, listed_of, name_in, start_of}
 use Rattle.node_graph.proofs.Ordered.{both_true, map_of, entries-map_of, same_or_other, same, other}
 use Rattle.node_graph.proofs.Linked.{below_found, entries-edges_of}
 
@@ -205,10 +205,6 @@ listed_few ends directory place few =
     omega (arith, few, fewer, len)
 
 -- ---- the sizes of names
-
--- a name has 1 to 255 bytes
-abbrev pub HasName : EdgeKey × Entry → Type 0
-HasName e = (1 ≤ length e.0.name) × (length e.0.name ≤ limit.MAX_NAME)
 
 all_of : (P : EdgeKey × Entry → Type 0) (es : List (EdgeKey × Entry)) → Each P es → All P es
 all_of P [] done k d within = absurd (omega (arith, within))

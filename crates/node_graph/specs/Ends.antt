@@ -38,6 +38,10 @@ edges_of ends = finite.from_entries (map edge_of (finite.entries ends))
 abbrev pub HasNamesAsDirectory : Ends → NodeRef → NodeKind → Type 0
 HasNamesAsDirectory ends node kind = has_names (edges_of ends) node.number ≡ true → is_directory kind ≡ true
 
+-- the name has 1 to 255 bytes
+abbrev pub HasName : EdgeKey × Entry → Type 0
+HasName entry = HasNameLength entry.0.name
+
 -- the rows stand in the order of their keys, and each name has 1 to 255 bytes
 pub record IsNamed (entries : List (EdgeKey × Entry)) : Type 0 where
   pub in_order : finite.is_sorted edge_cmp entries ≡ true

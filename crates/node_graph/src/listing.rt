@@ -1,9 +1,10 @@
-ghost use Rattle.std.specs.Prelude.{◌≡◌, ◌≤◌, map, length, All, Some};
+ghost use Rattle.std.specs.Prelude.{◌≡◌, ◌≤◌, map, length, All, Some, IfSome};
 ghost use Rattle.std.specs.Option.{option_map};
 ghost use Rattle.std.specs.Iterator.{YieldsFirstBy, item_count};
 ghost use Rattle.node_graph.specs.declared.nodes.NodeKind.TheVariants.{Directory};
 ghost use Rattle.node_graph.specs.Graph.{number_of, Names as NamesNode, kind_at, listed_after};
 ghost use Rattle.node_graph.specs.Listing.{listed};
+ghost use Rattle.node_graph.specs.Tree.{HasNameLength};
 
 use crate::graph::Graph;
 use crate::keys::EdgeName;
@@ -20,7 +21,7 @@ pub struct NameView<'a> {
     pub kind: NodeKind,
 }
 
-/// The names of a directory that a listing has left, in the order of their bytes.
+/// The names of a directory that a listing has left, each of 1 to 255 bytes, in the order of their bytes.
 #[derive(Drop)]
 pub struct Names<'a> {
     names: Range<'a, EdgeName, Entry>,
@@ -32,15 +33,19 @@ impl<'a> Model for Names<'a> {
 
     ghost Value = { List Listed };
 
-    ghost use Rattle.node_graph.specs.Ends.{listed_of};
+    ghost use Rattle.std.specs.Prelude.{All};
+    ghost use Rattle.node_graph.specs.Ends.{HasName, listed_of};
 
     ghost view = { λ listing. map listed_of listing.names };
+
+    ghost invariant = { λ listing. All HasName listing.names };
 }
 
 impl<'a> Iterator for Names<'a> {
     type Item = NameView<'a>;
 
-    ghost next_gives = { YieldsFirstBy listed (λ names. names) };
+    ghost next_gives = { λ names next rest. YieldsFirstBy listed (λ names. names) names next rest
+        × IfSome next (λ view. HasNameLength view.name.now) };
 
     ghost remaining = { item_count (λ names. names) };
 

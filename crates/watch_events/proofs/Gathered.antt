@@ -1,5 +1,5 @@
 -- What a new watcher is told, as it is gathered name by name.
-use Rattle.std.proofs.Common.{◌≡◌, ◌+◌, ◌≤◌, ℕ, Bool, true, false, List, [], ◌∷◌, ◌++◌, length, map, refl, sym, ap, subst, ◌∙◌}
+use Rattle.std.proofs.Common.{◌≡◌, ◌+◌, ℕ, Bool, true, false, List, [], ◌∷◌, ◌++◌, length, map, refl, sym, ap, subst, ◌∙◌}
 use Rattle.std.specs.Prelude.{nat_le, if◌then◌else◌}
 use Rattle.std.proofs.lemmas.List.{map-append}
 use Rattle.fidl_names.specs.declared.limits.TheConstants as limit
@@ -46,9 +46,6 @@ one_gathered all endpoint begun roomy next one names before now after was fits f
 
 abbrev pub names_of : List Listed → List (List ℕ)
 names_of names = map (λ one. one.name) names
-
-abbrev pub IsNamed : Listed → Type 0
-IsNamed one = (1 ≤ length one.name) × (length one.name ≤ limit.MAX_NAME)
 
 -- all that is told of names where the mask asks for them
 pub told_with_dot : (endpoint mask : ℕ) (names : List Listed) → asks_for mask existing ≡ true → names_told endpoint mask (names_of names) ≡ frames_with endpoint (event_bytes existing dot) names

@@ -1,6 +1,6 @@
 //! The messages to watchers, as `Directory.Watch` of `fuchsia.io` has them.
 
-ghost use Rattle.std.specs.Prelude.{◌≡◌, ◌≤◌, ◌<◌, ◌+◌, ◌++◌, [], All, OnErr, OnOk, drop, false, length, map, nat_le, true};
+ghost use Rattle.std.specs.Prelude.{◌≡◌, ◌≤◌, ◌<◌, ◌+◌, ◌++◌, [], OnErr, OnOk, drop, false, length, map, nat_le, true};
 ghost use Rattle.link_frames.specs.Frames.{spelling, spellings};
 ghost use Rattle.fidl_names.specs.declared.limits.TheConstants as limit;
 ghost use Rattle.watch_events.specs.Events.{event_bytes};
@@ -111,7 +111,6 @@ impl Message {
 /// most 8,192 bytes, and then with IDLE, in a message of its own, that these were all. For want of memory
 /// a front of the messages stands.
 pub fn snapshot(endpoint: u32, mask: u32, names: Names<'_>, to: &mut Outbox) -> Result<(), NoMemory>
-    requires named { All (λ one. (1 ≤ length one.name) × (length one.name ≤ limit.MAX_NAME)) names }
     ensures told { OnOk result (to.new ≡ to.old ++ spellings (first_frames endpoint mask (map (λ one. one.name) names.entry))) }
     ensures front { OnErr result (WritesFront (first_frames endpoint mask (map (λ one. one.name) names.entry)) to.old to.new) }
 {
@@ -121,7 +120,6 @@ pub fn snapshot(endpoint: u32, mask: u32, names: Names<'_>, to: &mut Outbox) -> 
 
 /// Tells of `.` and of these names.
 fn tell_names(endpoint: u32, mask: u32, names: Names<'_>, to: &mut Outbox) -> Result<(), NoMemory>
-    requires named { All (λ one. (1 ≤ length one.name) × (length one.name ≤ limit.MAX_NAME)) names }
     ensures told { OnOk result (to.new ≡ to.old ++ spellings (names_told endpoint mask (map (λ one. one.name) names.entry))) }
     ensures front { OnErr result (WritesFront (names_told endpoint mask (map (λ one. one.name) names.entry)) to.old to.new) }
 {

@@ -5,8 +5,8 @@ use Rattle.std.specs.declared.ops.Bound.{Bound}
 use Rattle.std.specs.declared.ops.Bound.TheVariants.{Excluded}
 use Rattle.std.specs.BTreeMap.Range.{entries_between}
 use Rattle.node_graph.specs.Tree.{EdgeKey, edge_cmp}
-use Rattle.node_graph.specs.Ends.{Ends, ends_after, start_of}
-use Rattle.node_graph.proofs.Listed.{HasName, listed_between, listed_named}
+use Rattle.node_graph.specs.Ends.{Ends, HasName, ends_after, start_of}
+use Rattle.node_graph.proofs.Listed.{listed_between, listed_named}
 use Rattle.node_graph.proofs.edges.Edges.after.Goals as goal
 
 pub returns-clause-names : goal.returns-clause-names
