@@ -3,3 +3,4 @@ pub mod Padded
 pub mod Rows
 pub mod Sizes
 pub mod Members
+pub mod OneMember

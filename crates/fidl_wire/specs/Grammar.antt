@@ -1,10 +1,12 @@
 -- Which bytes and handles spell a value: a relation with no cursor and no place in a message.
-use Rattle.std.specs.Prelude.{◌≡◌, ℕ, zero, suc, ◌+◌, ◌-◌, ◌%◌, ◌<◌, ◌≤◌, ◌⊎◌, Bool, true, false, List, [], ◌∷◌, ◌++◌, length, drop, replicate, slice_range, Option, Some, None}
+use Rattle.std.specs.Prelude.{◌≡◌, ℕ, zero, suc, ◌+◌, ◌-◌, ◌%◌, ◌<◌, ◌≤◌, ◌⊎◌, Bool, true, List, [], ◌∷◌, ◌++◌, length, drop, replicate, slice_range, Option, Some, None}
 use Rattle.std.specs.Str.{IsUtf8}
 use Rattle.fidl_names.specs.declared.methods.Handle.{Handle}
 use Rattle.fidl_names.specs.Numbers.{number_at}
 use Rattle.fidl_wire.specs.Written.{padded_bytes}
-use Rattle.fidl_wire.specs.Layout.{Cell, Item, Variant, Layout, Content, number, pad, handle, text, vector, table, num, blank, held, seq, members, empty, word, object, struct, union, fields, branch, is_kind, is_known, later, with_member, sizes_of, variant_of}
+use Rattle.fidl_wire.specs.declared.kinds.MemberKind.{MemberKind}
+use Rattle.fidl_wire.specs.declared.kinds.MemberKind.TheVariants as kind
+use Rattle.fidl_wire.specs.Layout.{Cell, Item, Member, Variant, Layout, Content, number, pad, handle, text, vector, table, value, content, num, blank, held, seq, members, empty, word, object, struct, union, fields, branch, is_kind, next_kind, later, with_member, has_required, sizes_of, variant_of}
 use Rattle.fidl_wire.specs.Reading.{present_word, present_list}
 
 -- what spells a cell: bytes in its object, bytes out of line, and handles
@@ -83,24 +85,34 @@ pub record IsNumberMember (x : ℕ) (p : Part) : Type 0 where
   pub value : IsNumber 8 x p.outside
   pub handles_are : p.handles ≡ []
 
--- a member with this number, absent, or skipped where it is not known
-abbrev pub IsMember : Bool → Option ℕ → Part → Type 0
-IsMember known (Some x) p = (known ≡ true) × IsNumberMember x p
-IsMember known None p = IsAbsent p ⊎ ((known ≡ false) × (IsSkippedShort p ⊎ IsSkippedLong p))
+-- a vector of bytes out of line
+pub record IsBytesMember (xs : List ℕ) (p : Part) : Type 0 where
+  pub vector : Part
+  pub is_list : IsList xs vector
+  pub envelope : IsEnvelope (length p.outside) 0 0 p.inline
+  pub outside_is : p.outside ≡ vector.inline ++ vector.outside
+  pub handles_are : p.handles ≡ []
+
+-- a member with this number or these bytes, absent, or skipped where it is not known
+abbrev pub IsMember : MemberKind → Option Member → Part → Type 0
+IsMember k (Some (value x)) p = (required : Bool) × (k ≡ kind.Number required) × IsNumberMember x p
+IsMember k (Some (content xs)) p = (required : Bool) × (k ≡ kind.Bytes required) × IsBytesMember xs p
+IsMember k None p = IsAbsent p ⊎ ((k ≡ kind.Unknown) × (IsSkippedShort p ⊎ IsSkippedLong p))
 
 -- so many members
-abbrev pub AreMembers : List Bool → List (Option ℕ) → ℕ → Part → Type 0
-AreMembers known values zero p = (values ≡ replicate (length known) None) × (p ≡ nothing)
-AreMembers known values (suc n) p =
-    (v : Option ℕ) × (vs : List (Option ℕ)) × (first : Part) × (rest : Part) × (values ≡ with_member known v vs) × IsMember (is_known known) v first
-    × AreMembers (later known) vs n rest × (p ≡ join first rest)
+abbrev pub AreMembers : List MemberKind → List (Option Member) → ℕ → Part → Type 0
+AreMembers kinds values zero p = (values ≡ replicate (length kinds) None) × (p ≡ nothing)
+AreMembers kinds values (suc n) p =
+    (v : Option Member) × (vs : List (Option Member)) × (first : Part) × (rest : Part) × (values ≡ with_member kinds v vs) × IsMember (next_kind kinds) v first
+    × AreMembers (later kinds) vs n rest × (p ≡ join first rest)
 
--- a table: the envelopes out of line, and behind them what they hold
-pub record IsTable (known : List Bool) (values : List (Option ℕ)) (p : Part) : Type 0 where
+-- a table: the envelopes out of line, and behind them what they hold. Each member that has to be there is
+pub record IsTable (kinds : List MemberKind) (values : List (Option Member)) (p : Part) : Type 0 where
   pub count : ℕ
   pub slots : Part
   pub head : IsCount count p.inline
-  pub members_are : AreMembers known values count slots
+  pub members_are : AreMembers kinds values count slots
+  pub required : has_required kinds values ≡ true
   pub outside_is : p.outside ≡ slots.inline ++ slots.outside
   pub handles_are : p.handles ≡ slots.handles
 
@@ -113,7 +125,7 @@ Spells (pad size) blank p = (p.inline ≡ replicate size 0) × IsInline p
 Spells (handle kind nullable) (held h) p = IsHandle nullable (is_kind kind) h p
 Spells text (seq xs) p = IsUtf8 xs × IsList xs p
 Spells vector (seq xs) p = IsList xs p
-Spells (table known) (members values) p = IsTable known values p
+Spells (table kinds) (members values) p = IsTable kinds values p
 Spells _ _ p = ⊥
 
 -- a part spells what a value has in cells one after another

@@ -1,9 +1,11 @@
 -- What a message's layout is made of: cells, in the order in which they are read, and what a value has in each.
-use Rattle.std.specs.Prelude.{ℕ, ◌+◌, ◌==◌, if◌then◌else◌, Some, None, Bool, true, false, List, [], ◌∷◌, Option}
+use Rattle.std.specs.Prelude.{ℕ, ◌+◌, ◌==◌, ◌&&◌, ◌||◌, not, if◌then◌else◌, Some, None, is_some, Bool, true, false, List, [], ◌∷◌, Option}
 use Rattle.fidl_names.specs.declared.methods.Handle.{Handle}
 use Rattle.fidl_names.specs.declared.methods.Handle.TheVariants.{Endpoint, Token}
 use Rattle.fidl_wire.specs.declared.kinds.HandleKind.{HandleKind}
 use Rattle.fidl_wire.specs.declared.kinds.HandleKind.TheVariants as kinds
+use Rattle.fidl_wire.specs.declared.kinds.MemberKind.{MemberKind}
+use Rattle.fidl_wire.specs.declared.kinds.MemberKind.TheVariants as member
 
 pub data Cell : Type 0 where
   -- an unsigned number of so many bytes
@@ -16,8 +18,13 @@ pub data Cell : Type 0 where
   text : Cell
   -- a vector of bytes
   vector : Cell
-  -- a table. Its members are numbers of eight bytes; it says of each from member 1 on whether it is known
-  table : (known : List Bool) → Cell
+  -- a table, by what each of its members is, from member 1 on
+  table : (kinds : List MemberKind) → Cell
+
+-- what a member of a table has: a number, or bytes
+pub data Member : Type 0 where
+  value : ℕ → Member
+  content : List ℕ → Member
 
 -- what a value has in a cell
 pub data Item : Type 0 where
@@ -25,8 +32,8 @@ pub data Item : Type 0 where
   blank : Item
   held : Option Handle → Item
   seq : List ℕ → Item
-  -- for each member that the layout speaks of its number, none where it is absent or not known
-  members : List (Option ℕ) → Item
+  -- for each member that the layout speaks of what it has, none where it is absent or not known
+  members : List (Option Member) → Item
 
 -- the handle is of this kind
 abbrev pub is_kind : HandleKind → Handle → Bool
@@ -36,19 +43,30 @@ is_kind kinds.AnEndpoint (Token n) = false
 is_kind kinds.AToken (Endpoint n) = false
 is_kind kinds.AToken (Token n) = true
 
--- whether the next member is known, and the members behind it; those that a layout doesn't speak of aren't
-abbrev pub is_known : List Bool → Bool
-is_known [] = false
-is_known (k ∷ ks) = k
+-- what the next member is, and the members behind it; those that a layout doesn't speak of aren't known
+abbrev pub next_kind : List MemberKind → MemberKind
+next_kind [] = member.Unknown
+next_kind (k ∷ ks) = k
 
-abbrev pub later : List Bool → List Bool
+abbrev pub later : {K : Type 0} → List K → List K
 later [] = []
 later (k ∷ ks) = ks
 
 -- the members, where that of the first is v
-abbrev pub with_member : List Bool → Option ℕ → List (Option ℕ) → List (Option ℕ)
+abbrev pub with_member : {K V : Type 0} → List K → V → List V → List V
 with_member [] v vs = vs
 with_member (k ∷ ks) v vs = v ∷ vs
+
+-- the member has to be there
+abbrev pub is_required : MemberKind → Bool
+is_required member.Unknown = false
+is_required (member.Number required) = required
+is_required (member.Bytes required) = required
+
+-- and each that has to be there is
+abbrev pub has_required : List MemberKind → List (Option Member) → Bool
+has_required (k ∷ ks) (v ∷ vs) = (is_some v || not (is_required k)) && has_required ks vs
+has_required _ _ = true
 
 -- how many inline bytes a cell has
 abbrev pub size_of : Cell → ℕ
@@ -57,7 +75,7 @@ size_of (pad size) = size
 size_of (handle kind nullable) = 4
 size_of text = 16
 size_of vector = 16
-size_of (table known) = 16
+size_of (table kinds) = 16
 
 abbrev pub sizes_of : List Cell → ℕ
 sizes_of [] = 0

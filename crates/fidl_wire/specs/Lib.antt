@@ -11,3 +11,4 @@ pub mod Epitaphs
 pub mod Grammar
 pub mod Spelling
 pub mod Within
+pub mod Told

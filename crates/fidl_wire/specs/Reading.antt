@@ -8,11 +8,13 @@ use Rattle.fidl_wire.specs.declared.reading.Branch.{Branch}
 use Rattle.fidl_wire.specs.declared.reading.Outside.{Outside}
 use Rattle.fidl_wire.specs.declared.faults.WireFault.{WireFault}
 use Rattle.fidl_wire.specs.declared.kinds.HandleKind.{HandleKind}
+use Rattle.fidl_wire.specs.declared.kinds.MemberKind.{MemberKind}
+use Rattle.fidl_wire.specs.declared.kinds.MemberKind.TheVariants as kind
 use Rattle.fidl_wire.specs.declared.faults.WireWhat.TheVariants.{Short, Padding, Presence, Count, Utf8, Envelope, Ordinal, Handles, Trailing}
 use Rattle.fidl_names.specs.Numbers.{number_at}
 use Rattle.fidl_wire.specs.Numbers.{padded}
 use Rattle.fidl_wire.specs.Headers.{fault}
-use Rattle.fidl_wire.specs.Layout.{Cell, Item, Variant, Layout, Content, empty, word, object, struct, union, fields, branch, sizes_of, variant_of, number, pad, handle, text, vector, table, num, blank, held, seq, members, is_kind, is_known, later, with_member}
+use Rattle.fidl_wire.specs.Layout.{Cell, Item, Member, Variant, Layout, Content, empty, word, object, struct, union, fields, branch, sizes_of, variant_of, number, pad, handle, text, vector, table, value, content, num, blank, held, seq, members, is_kind, next_kind, later, with_member, has_required}
 use Rattle.fidl_wire.specs.Cursor.{Cursor, outside_of, start_of}
 
 infixl 10 ◌>>=◌
@@ -142,36 +144,56 @@ skipped at message o =
     then (enough_handles at message o >>= λ _. Ok (record o { left = o.left - handles_at at message }))
     else (entered at 0 message o >>= λ _. Ok (record { out = o.out + bytes_at at message; left = o.left - handles_at at message }))
 
+-- a member's value, and what lies behind it
+abbrev pub MemberStep : Type 0
+MemberStep = Result (Option Member × Outside) WireFault
+
 -- a member that is a number of eight bytes
-abbrev pub number_member : ℕ → List ℕ → Outside → Result (Option ℕ × Outside) WireFault
+abbrev pub number_member : ℕ → List ℕ → Outside → MemberStep
 number_member at message o =
     entered at 8 message o
     >>= λ _. check ((bytes_at at message == 8) && (handles_at at message == 0)) (fault at Envelope)
-    >>= λ _. Ok (Some (number_at 8 o.out message), record o { out = o.out + 8 })
+    >>= λ _. Ok (Some (value (number_at 8 o.out message)), record o { out = o.out + 8 })
 
-unfoldable pub member_at : Bool → ℕ → List ℕ → Outside → Result (Option ℕ × Outside) WireFault
-member_at known at message o =
-    if is_absent at message then Ok (None, o)
-    else if known then number_member at message o
-    else (skipped at message o >>= λ rest. Ok (None, rest))
+-- before a list that stands behind what was read so far
+abbrev pub before_list : List ℕ → ℕ → Cursor
+before_list message out = record { message = message; handles = []; place = out; end = out + 16; out = out + 16; opened = None }
+
+-- a member that is a vector of bytes: the list, and then what its envelope counts
+abbrev pub bytes_member : ℕ → List ℕ → Outside → MemberStep
+bytes_member at message o =
+    entered at 16 message o
+    >>= λ _. list_cell false (before_list message o.out)
+    >>= λ list. check ((o.out + bytes_at at message == list.1.out) && (handles_at at message == 0)) (fault at Envelope)
+    >>= λ _. Ok (Some (content list.0), record o { out = list.1.out })
+
+-- a member that is there
+abbrev pub present_member : MemberKind → ℕ → List ℕ → Outside → MemberStep
+present_member kind.Unknown at message o = skipped at message o >>= λ rest. Ok (None, rest)
+present_member (kind.Number required) at message o = number_member at message o
+present_member (kind.Bytes required) at message o = bytes_member at message o
+
+unfoldable pub member_at : MemberKind → ℕ → List ℕ → Outside → MemberStep
+member_at k at message o = if is_absent at message then Ok (None, o) else present_member k at message o
 
 -- the members of so many envelopes, the first of them at a place
-abbrev pub members_at : List Bool → ℕ → ℕ → List ℕ → Outside → Result (List (Option ℕ) × Outside) WireFault
-members_at known at zero message o = Ok (replicate (length known) None, o)
-members_at known at (suc n) message o =
-    member_at (is_known known) at message o
-    >>= λ first. members_at (later known) (at + 8) n message first.1
-    >>= λ rest. Ok (with_member known first.0 rest.0, rest.1)
+abbrev pub members_at : List MemberKind → ℕ → ℕ → List ℕ → Outside → Result (List (Option Member) × Outside) WireFault
+members_at kinds at zero message o = Ok (replicate (length kinds) None, o)
+members_at kinds at (suc n) message o =
+    member_at (next_kind kinds) at message o
+    >>= λ first. members_at (later kinds) (at + 8) n message first.1
+    >>= λ rest. Ok (with_member kinds first.0 rest.0, rest.1)
 
--- a table's envelopes, and behind them what they hold
-abbrev pub table_at : List Bool → ℕ → ℕ → Cursor → Step (List (Option ℕ))
-table_at known at count c =
+-- a table's envelopes, and behind them what they hold; then each member that has to be there is
+abbrev pub table_at : List MemberKind → ℕ → ℕ → Cursor → Step (List (Option Member))
+table_at kinds at count c =
     check (nat_le (c.out + 8 * count) (length c.message)) (fault at Count)
-    >>= λ _. members_at known c.out count c.message (record { out = c.out + 8 * count; left = length c.handles })
-    >>= λ m. Ok (m.0, record (passed 16 c) { out = m.1.out; handles = drop (length c.handles - m.1.left) c.handles })
+    >>= λ _. members_at kinds c.out count c.message (record { out = c.out + 8 * count; left = length c.handles })
+    >>= λ m. check (has_required kinds m.0) (fault at Envelope)
+    >>= λ _. Ok (m.0, record (passed 16 c) { out = m.1.out; handles = drop (length c.handles - m.1.left) c.handles })
 
-abbrev pub table_cell : List Bool → Cursor → Step (List (Option ℕ))
-table_cell known c = inline_at 16 c >>= λ at. count_at at c >>= λ count. table_at known at count c
+abbrev pub table_cell : List MemberKind → Cursor → Step (List (Option Member))
+table_cell kinds c = inline_at 16 c >>= λ at. count_at at c >>= λ count. table_at kinds at count c
 
 -- ---- cells
 
@@ -182,7 +204,7 @@ cell_at (pad size) c = pad_cell size c >>= λ x. Ok (blank, x.1)
 cell_at (handle kind nullable) c = handle_cell kind nullable c >>= λ x. Ok (held x.0, x.1)
 cell_at text c = list_cell true c >>= λ x. Ok (seq x.0, x.1)
 cell_at vector c = list_cell false c >>= λ x. Ok (seq x.0, x.1)
-cell_at (table known) c = table_cell known c >>= λ x. Ok (members x.0, x.1)
+cell_at (table kinds) c = table_cell kinds c >>= λ x. Ok (members x.0, x.1)
 
 -- ---- unions
 

@@ -1,10 +1,13 @@
 -- How a value is spelled: the one way in which it is written.
-use Rattle.std.specs.Prelude.{◌≡◌, ℕ, ◌^◌, ◌<◌, Bool, true, List, [], ◌∷◌, ◌++◌, length, replicate, Option, Some, None}
+use Rattle.std.specs.Prelude.{◌≡◌, ℕ, ◌+◌, ◌^◌, ◌<◌, Bool, true, List, [], ◌∷◌, ◌++◌, length, replicate, Option, Some, None}
 use Rattle.std.specs.Str.{IsUtf8}
 use Rattle.fidl_names.specs.declared.methods.Handle.{Handle}
 use Rattle.fidl_names.specs.Numbers.{number_bytes}
 use Rattle.fidl_wire.specs.Written.{padded_bytes}
-use Rattle.fidl_wire.specs.Layout.{Cell, Item, Variant, Layout, Content, number, pad, handle, text, vector, table, num, blank, held, seq, members, empty, word, object, struct, union, fields, branch, is_kind, sizes_of, variant_of}
+use Rattle.fidl_wire.specs.declared.kinds.MemberKind.{MemberKind}
+use Rattle.fidl_wire.specs.declared.kinds.MemberKind.TheVariants as kind
+use Rattle.fidl_wire.specs.Numbers.{padded}
+use Rattle.fidl_wire.specs.Layout.{Cell, Item, Member, Variant, Layout, Content, number, pad, handle, text, vector, table, value, content, num, blank, held, seq, members, empty, word, object, struct, union, fields, branch, is_kind, has_required, sizes_of, variant_of}
 use Rattle.fidl_wire.specs.Reading.{present_word, present_list}
 use Rattle.fidl_wire.specs.Grammar.{Part, nothing, join}
 
@@ -21,24 +24,26 @@ envelope_bytes bytes handles flags = number_bytes 4 bytes ++ number_bytes 2 hand
 
 -- ---- tables
 
-abbrev pub member_part : Option ℕ → Part
+abbrev pub member_part : Option Member → Part
 member_part None = inline_part (number_bytes 8 0)
-member_part (Some x) = record { inline = envelope_bytes 8 0 0; outside = number_bytes 8 x; handles = [] }
+member_part (Some (value x)) = record { inline = envelope_bytes 8 0 0; outside = number_bytes 8 x; handles = [] }
+member_part (Some (content xs)) =
+    record { inline = envelope_bytes (16 + padded (length xs)) 0 0; outside = count_bytes (length xs) ++ padded_bytes xs; handles = [] }
 
-abbrev pub members_part : List (Option ℕ) → Part
+abbrev pub members_part : List (Option Member) → Part
 members_part [] = nothing
 members_part (v ∷ vs) = join (member_part v) (members_part vs)
 
 -- the members up to the last that is there
-abbrev pub kept : Option ℕ → List (Option ℕ) → List (Option ℕ)
+abbrev pub kept : {V : Type 0} → Option V → List (Option V) → List (Option V)
 kept None [] = []
 kept v vs = v ∷ vs
 
-abbrev pub given : List (Option ℕ) → List (Option ℕ)
+abbrev pub given : {V : Type 0} → List (Option V) → List (Option V)
 given [] = []
 given (v ∷ vs) = kept v (given vs)
 
-abbrev pub table_part : List (Option ℕ) → Part
+abbrev pub table_part : List (Option Member) → Part
 table_part vs =
     let slots = members_part (given vs) in
     record { inline = count_bytes (length (given vs)); outside = slots.inline ++ slots.outside; handles = slots.handles }
@@ -58,7 +63,7 @@ spelling_of (pad size) blank = inline_part (replicate size 0)
 spelling_of (handle kind nullable) (held h) = handle_part h
 spelling_of text (seq xs) = list_part_of xs
 spelling_of vector (seq xs) = list_part_of xs
-spelling_of (table known) (members vs) = table_part vs
+spelling_of (table kinds) (members vs) = table_part vs
 spelling_of _ _ = nothing
 
 abbrev pub spelling_of_all : List Cell → List Item → Part
@@ -67,11 +72,15 @@ spelling_of_all _ _ = nothing
 
 -- ---- what has a spelling
 
--- each member is known where it is there, and a number of eight bytes
-abbrev pub FitMembers : List Bool → List (Option ℕ) → Type 0
+-- what a member has is of its kind: a number of eight bytes, or bytes that an envelope can count
+abbrev pub FitsMember : MemberKind → Member → Type 0
+FitsMember k (value x) = (required : Bool) × (k ≡ kind.Number required) × (x < 256 ^ 8)
+FitsMember k (content xs) = (required : Bool) × (k ≡ kind.Bytes required) × (16 + padded (length xs) < 256 ^ 4)
+
+abbrev pub FitMembers : List MemberKind → List (Option Member) → Type 0
 FitMembers [] [] = Unit {0}
 FitMembers (k ∷ ks) (None ∷ vs) = FitMembers ks vs
-FitMembers (k ∷ ks) (Some x ∷ vs) = (k ≡ true) × (x < 256 ^ 8) × FitMembers ks vs
+FitMembers (k ∷ ks) (Some v ∷ vs) = FitsMember k v × FitMembers ks vs
 FitMembers _ _ = ⊥
 
 abbrev pub FitsHandle : Bool → (Handle → Bool) → Option Handle → Type 0
@@ -84,7 +93,7 @@ Fits (pad size) blank = Unit {0}
 Fits (handle kind nullable) (held h) = FitsHandle nullable (is_kind kind) h
 Fits text (seq xs) = IsUtf8 xs × (length xs < 256 ^ 8)
 Fits vector (seq xs) = length xs < 256 ^ 8
-Fits (table known) (members vs) = (length vs < 256 ^ 8) × FitMembers known vs
+Fits (table kinds) (members vs) = (length vs < 256 ^ 8) × FitMembers kinds vs × (has_required kinds vs ≡ true)
 Fits _ _ = ⊥
 
 abbrev pub AllFit : List Cell → List Item → Type 0

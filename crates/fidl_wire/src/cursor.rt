@@ -1,20 +1,21 @@
-ghost use Rattle.std.specs.Prelude.{◌≡◌, ◌+◌, ◌<◌, ◌≤◌, ◌==◌, true, false, [], ◌∷◌, Some, None, IsSome, IfSome, option_map, length, replicate, Ok, Err, IfOk, IfErr, OnOk, OnErr};
+ghost use Rattle.std.specs.Prelude.{◌≡◌, ◌+◌, ◌%◌, ◌<◌, ◌≤◌, ◌==◌, true, false, [], ◌∷◌, Some, None, IsSome, IfSome, option_map, length, replicate, Ok, Err, IfOk, IfErr, OnOk, OnErr};
 ghost use Rattle.std.specs.Int.{w32, w64, cast_unsigned};
-ghost use Rattle.fidl_wire.specs.Layout.{number, pad, handle, text, vector, table, num, blank, held, seq, members, is_kind};
-ghost use Rattle.fidl_wire.specs.Cursor.{start_of, outside_of};
+ghost use Rattle.fidl_wire.specs.Layout.{number, pad, handle, text, vector, table, value, content, num, blank, held, seq, members, is_kind};
+ghost use Rattle.fidl_wire.specs.Cursor.{Cursor, start_of, outside_of};
+ghost use Rattle.fidl_wire.specs.Told.{all_told};
 ghost use Rattle.fidl_wire.specs.Within.{IsPart};
 ghost use Rattle.fidl_wire.specs.Headers.{fault};
 ghost use Rattle.fidl_wire.specs.declared.faults.WireWhat.TheVariants.{Handles};
-ghost use Rattle.fidl_wire.specs.Reading.{check, all_blank, inline_at, count_at, list_cell, cell_at, inlined_word, object_at, branch_of, ordinal_at, finish_of, closed, is_whole};
+ghost use Rattle.fidl_wire.specs.Reading.{before_list, check, all_blank, inline_at, count_at, list_cell, cell_at, inlined_word, object_at, branch_of, ordinal_at, finish_of, closed, is_whole};
 
 use crate::blanks::check_blank;
 use crate::envelopes::{bytes_at, check_handles, enter, handles_at, is_inlined};
 use crate::faults::{WireFault, WireWhat};
 use crate::headers::HEADER_SIZE;
-use crate::kinds::{HandleKind, is_kind};
+use crate::kinds::{HandleKind, Member, MemberKind, is_kind};
 use crate::padding::padding_after;
 use crate::reading::{Branch, Opened, Outside};
-use crate::tables::{forget, have_room, members};
+use crate::tables::{forget, has_required, have_room, members};
 use crate::texts::may_stand;
 use fidl_names::{Handle, u32_at, u64_at};
 use std::marker::Model;
@@ -250,27 +251,55 @@ impl<'a, 'h> Body<'a, 'h> {
         Ok(part)
     }
 
-    /// The next field, a table of numbers of eight bytes. Member k is known where `known[k - 1]`
-    /// holds, and its number goes to `values[k - 1]`, `None` where it is absent or not known.
-    /// Members that are not known are skipped by their counts, and their handles are passed. After
-    /// a fault `values` says nothing.
+    /// A vector of bytes whose inline part stands at a place out of line, and where it ends.
+    pub(crate) fn list_at(bytes: &'a [u8], at: usize) -> Result<(&'a [u8], usize), WireFault>
+        requires aligned { at % 8 ≡ 0 }
+        requires room { at + 16 ≤ length bytes.now }
+        ensures value { IfOk result (λ r. (behind : Cursor) × (list_cell false (before_list bytes.now at) ≡ Ok (r.0.now, behind)) × (behind.out ≡ r.1)) }
+        ensures placed { IfOk result (λ r. (r.1 ≤ length bytes.now) × (r.1 % 8 ≡ 0)) }
+        ensures fault { IfErr result (λ e. list_cell false (before_list bytes.now at) ≡ Err e) }
+    {
+        let mut list = Body {
+            bytes,
+            handles: &[],
+            place: at,
+            end: at + 16,
+            out: at + 16,
+            opened: None,
+        };
+        let part = list.list(false)?;
+        Ok((part, list.out))
+    }
+
+    /// The next field, a table. Member k is what `kinds[k - 1]` says, and what it has goes to
+    /// `values[k - 1]`, `None` where it is absent or not known. Members that are not known are
+    /// skipped by their counts, and their handles are passed. `Envelope` at the table's count where
+    /// a member is absent that has to be there. After a fault `values` says nothing.
     #[tactic(auto, unfolding(crate::specs::Reading::cell_at))]
-    pub fn table(&mut self, known: &[bool], values: &mut [Option<u64>]) -> Result<(), WireFault>
-        requires { length values.old ≡ length known.now }
-        ensures value { OnOk result (cell_at (table known.now) self.old ≡ Ok (members values.new, self.new)) }
-        ensures fault { IfErr result (λ e. cell_at (table known.now) self.old ≡ Err e) }
+    pub fn table(
+        &mut self,
+        kinds: &[MemberKind],
+        values: &mut [Option<Member<'a>>],
+    ) -> Result<(), WireFault>
+        requires { length values.old ≡ length kinds.now }
+        ensures value { OnOk result (cell_at (table kinds.now) self.old ≡ Ok (members (all_told values.new), self.new)) }
+        ensures fault { IfErr result (λ e. cell_at (table kinds.now) self.old ≡ Err e) }
         ensures unchanged { OnErr result (self.new ≡ self.old) }
     {
         forget(values);
-        self.table_into(known, values)
+        self.table_into(kinds, values)
     }
 
-    /// The same, where `values` has no number yet.
+    /// The same, where `values` has nothing yet.
     #[tactic(auto, unfolding(crate::specs::Reading::cell_at))]
-    fn table_into(&mut self, known: &[bool], values: &mut [Option<u64>]) -> Result<(), WireFault>
-        requires { values.old ≡ replicate (length known.now) None }
-        ensures value { OnOk result (cell_at (table known.now) self.old ≡ Ok (members values.new, self.new)) }
-        ensures fault { IfErr result (λ e. cell_at (table known.now) self.old ≡ Err e) }
+    fn table_into(
+        &mut self,
+        kinds: &[MemberKind],
+        values: &mut [Option<Member<'a>>],
+    ) -> Result<(), WireFault>
+        requires { all_told values.old ≡ replicate (length kinds.now) None }
+        ensures value { OnOk result (cell_at (table kinds.now) self.old ≡ Ok (members (all_told values.new), self.new)) }
+        ensures fault { IfErr result (λ e. cell_at (table kinds.now) self.old ≡ Err e) }
         ensures unchanged { OnErr result (self.new ≡ self.old) }
     {
         let at = self.inline_place(16)?;
@@ -283,22 +312,45 @@ impl<'a, 'h> Body<'a, 'h> {
             out: first + 8 * count,
             left: self.handles.len(),
         };
-        let rest = members(self.bytes, known, first, count, start, values)?;
+        let rest = members(self.bytes, kinds, first, count, start, values)?;
+        if !has_required(kinds, values) {
+            return Err(WireFault::new(at, WireWhat::Envelope));
+        }
         self.place += 16;
         self.out = rest.out;
         self.handles = &self.handles[self.handles.len() - rest.left..];
         Ok(())
     }
 
-    /// The next field, a table whose member 1 alone is known: its number where it is there.
+    /// The next field, a table whose member 1 alone is known, a number of eight bytes that may be absent.
     pub fn table_u64(&mut self) -> Result<Option<u64>, WireFault>
-        ensures value { IfOk result (λ x. cell_at (table (true ∷ [])) self.old ≡ Ok (members (x ∷ []), self.new)) }
-        ensures fault { IfErr result (λ e. cell_at (table (true ∷ [])) self.old ≡ Err e) }
+        ensures value { IfOk result (λ x. cell_at (table (MemberKind.Number false ∷ [])) self.old ≡ Ok (members (option_map value x ∷ []), self.new)) }
+        ensures fault { IfErr result (λ e. cell_at (table (MemberKind.Number false ∷ [])) self.old ≡ Err e) }
         ensures unchanged { OnErr result (self.new ≡ self.old) }
     {
         let mut values = [None];
-        self.table_into(&[true], &mut values)?;
-        Ok(values[0])
+        self.table_into(&[MemberKind::Number { required: false }], &mut values)?;
+        match values[0] {
+            None => Ok(None),
+            Some(Member::Number(number)) => Ok(Some(number)),
+            Some(Member::Bytes(_)) => unreachable!(),
+        }
+    }
+
+    /// The next field, a table whose member 1 alone is known, a vector of bytes that has to be there: the part of
+    /// the message that has them. `Envelope` at the table's count where it is absent.
+    pub fn table_bytes(&mut self) -> Result<&'a [u8], WireFault>
+        ensures value { IfOk result (λ part. cell_at (table (MemberKind.Bytes true ∷ [])) self.old ≡ Ok (members (Some (content part.now) ∷ []), self.new)) }
+        ensures fault { IfErr result (λ e. cell_at (table (MemberKind.Bytes true ∷ [])) self.old ≡ Err e) }
+        ensures unchanged { OnErr result (self.new ≡ self.old) }
+    {
+        let mut values = [None];
+        self.table_into(&[MemberKind::Bytes { required: true }], &mut values)?;
+        match values[0] {
+            Some(Member::Bytes(part)) => Ok(part),
+            Some(Member::Number(_)) => unreachable!(),
+            None => unreachable!(),
+        }
     }
 
     /// The ordinal of the union that is the next field, which is not passed.

@@ -1,9 +1,13 @@
-ghost use Rattle.std.specs.Prelude.{◌≡◌, ◌+◌, ◌-◌, ◌==◌, ◌≤◌, ◌%◌, length, nat_le, max, IfOk, OnOk};
+ghost use Rattle.std.specs.Prelude.{◌≡◌, ◌+◌, ◌-◌, ◌==◌, ◌≤◌, ◌%◌, length, nat_le, max, option_map, Ok, Err, Some, IfOk, IfErr, OnOk};
 ghost use Rattle.fidl_wire.specs.Numbers.{padded};
 ghost use Rattle.fidl_wire.specs.Within.{IsPlaced};
-ghost use Rattle.fidl_wire.specs.Reading.{bytes_at, handles_at, flags_at, is_absent, is_inlined, is_outside, enough_handles, entered, skipped, number_member, member_at};
+ghost use Rattle.fidl_wire.specs.Reading.{bytes_at, handles_at, flags_at, is_absent, is_inlined, is_outside, enough_handles, entered, skipped, number_member, bytes_member, member_at};
+ghost use Rattle.fidl_wire.specs.Layout.{value, content};
+ghost use Rattle.fidl_wire.specs.Told.{told};
 
+use crate::cursor::Body;
 use crate::faults::{WireFault, WireWhat};
+use crate::kinds::{Member, MemberKind};
 use crate::padding::padding_after;
 use crate::reading::Outside;
 use fidl_names::{u16_at, u32_at, u64_at};
@@ -129,10 +133,11 @@ fn skip(message: &[u8], at: usize, outside: Outside) -> Result<Outside, WireFaul
 }
 
 /// A member that is a number of eight bytes.
-fn number(message: &[u8], at: usize, outside: Outside) -> Result<(Option<u64>, Outside), WireFault>
+fn number(message: &[u8], at: usize, outside: Outside) -> Result<(u64, Outside), WireFault>
     requires envelope { at + 8 ≤ length message.now }
     requires placed { IsPlaced (length message.now) outside }
-    ensures value { result ≡ number_member at message.now outside }
+    ensures value { IfOk result (λ r. number_member at message.now outside ≡ Ok (Some (value r.0), r.1)) }
+    ensures fault { IfErr result (λ e. number_member at message.now outside ≡ Err e) }
     ensures placed { IfOk result (λ r. IsPlaced (length message.now) r.1) }
     ensures left { IfOk result (λ r. r.1.left ≤ outside.left) }
 {
@@ -142,7 +147,7 @@ fn number(message: &[u8], at: usize, outside: Outside) -> Result<(Option<u64>, O
     }
     let value = u64_at(message, outside.out);
     Ok((
-        Some(value),
+        value,
         Outside {
             out: outside.out + 8,
             left: outside.left,
@@ -150,25 +155,56 @@ fn number(message: &[u8], at: usize, outside: Outside) -> Result<(Option<u64>, O
     ))
 }
 
-/// The member in the envelope at a place: its number where it is known and there.
-#[tactic(auto, unfolding(crate::specs::Reading::member_at))]
-pub fn member(
-    message: &[u8],
-    at: usize,
-    known: bool,
-    outside: Outside,
-) -> Result<(Option<u64>, Outside), WireFault>
+/// A member that is a vector of bytes: the part of the message that has them.
+fn bytes<'a>(message: &'a [u8], at: usize, outside: Outside) -> Result<(&'a [u8], Outside), WireFault>
     requires envelope { at + 8 ≤ length message.now }
     requires placed { IsPlaced (length message.now) outside }
-    ensures value { result ≡ member_at known at message.now outside }
+    ensures value { IfOk result (λ r. bytes_member at message.now outside ≡ Ok (Some (content r.0.now), r.1)) }
+    ensures fault { IfErr result (λ e. bytes_member at message.now outside ≡ Err e) }
+    ensures placed { IfOk result (λ r. IsPlaced (length message.now) r.1) }
+    ensures left { IfOk result (λ r. r.1.left ≤ outside.left) }
+{
+    enter(message, at, 16, outside)?;
+    let (part, out) = Body::list_at(message, outside.out)?;
+    if outside.out + bytes_at(message, at) != out || handles_at(message, at) != 0 {
+        return Err(WireFault::new(at, WireWhat::Envelope));
+    }
+    Ok((
+        part,
+        Outside {
+            out,
+            left: outside.left,
+        },
+    ))
+}
+
+/// The member in the envelope at a place: what it has where it is known and there.
+#[tactic(auto, unfolding(crate::specs::Reading::member_at))]
+pub fn member<'a>(
+    message: &'a [u8],
+    at: usize,
+    kind: MemberKind,
+    outside: Outside,
+) -> Result<(Option<Member<'a>>, Outside), WireFault>
+    requires envelope { at + 8 ≤ length message.now }
+    requires placed { IsPlaced (length message.now) outside }
+    ensures value { IfOk result (λ r. member_at kind at message.now outside ≡ Ok (option_map told r.0, r.1)) }
+    ensures fault { IfErr result (λ e. member_at kind at message.now outside ≡ Err e) }
     ensures placed { IfOk result (λ r. IsPlaced (length message.now) r.1) }
     ensures left { IfOk result (λ r. r.1.left ≤ outside.left) }
 {
     if is_absent(message, at) {
         return Ok((None, outside));
     }
-    if known {
-        return number(message, at, outside);
+    match kind {
+        MemberKind::Unknown => Ok((None, skip(message, at, outside)?)),
+        MemberKind::Number { .. } => {
+            let (value, rest) = number(message, at, outside)?;
+            Ok((Some(Member::Number(value)), rest))
+        }
+        MemberKind::Bytes { .. } => {
+            let (part, rest) = bytes(message, at, outside)?;
+            Ok((Some(Member::Bytes(part)), rest))
+        }
     }
-    Ok((None, skip(message, at, outside)?))
 }

@@ -23,7 +23,7 @@ pub use faults::{WireFault, WireWhat};
 pub use fidl_names::{Handle, Method, NoMemory, Status};
 pub use hashing::ordinal;
 pub use headers::{HEADER_SIZE, Header, MAGIC};
-pub use kinds::{HandleKind, is_kind};
+pub use kinds::{HandleKind, Member, MemberKind, is_kind};
 pub use ordinals::{OrdinalFault, Ordinals};
 pub use output::Out;
 pub use padding::padding_after;

@@ -115,7 +115,7 @@ list_at_fault is_text c e mark out h =
           ]
     ]
 
-list_fault : (is_text : Bool) (c : Cursor) (e : WireFault) → c.out ≤ length c.message → c.place + 16 ≤ c.end → list_cell is_text c ≡ Err e → ListFault is_text (spot_of c) e.at e.what
+pub list_fault : (is_text : Bool) (c : Cursor) (e : WireFault) → c.out ≤ length c.message → c.place + 16 ≤ c.end → list_cell is_text c ≡ Err e → ListFault is_text (spot_of c) e.at e.what
 list_fault is_text c e out fits h =
     let at = c.place in
     let here = inline_bind_err 16 c (λ at. count_at at c >>= λ count. list_at is_text at count c) e fits h in

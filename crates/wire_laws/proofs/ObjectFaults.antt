@@ -40,7 +40,7 @@ cell_fault (pad size) c e within out fits h = pad_fault size c e within fits h
 cell_fault (handle kind nullable) c e within out fits h = handle_fault kind nullable c e fits h
 cell_fault text c e within out fits h = text_fault c e out fits h
 cell_fault vector c e within out fits h = vector_fault c e out fits h
-cell_fault (table known) c e within out fits h = table_fault known c e out fits h
+cell_fault (table kinds) c e within out fits h = table_fault kinds c e out fits h
 
 none_spells : (cell : Cell) (c : Cursor) (e : WireFault) → c.out ≤ length c.message → cell_at cell c ≡ Err e → NoneSpells cell (spot_of c)
 none_spells cell c e out h x p front spells =

@@ -1,10 +1,12 @@
 -- Cells one after another, and the object that they are: read exactly where they are spelled.
-use Rattle.std.proofs.Common.{◌≡◌, ℕ, zero, suc, ◌+◌, ◌%◌, ◌≤◌, inl, inr, subst, Bool, List, [], ◌∷◌, length, drop, Option, Some, None, Ok, refl, sym, ap, ◌∙◌, length-append, length-drop, arith}
+use Rattle.std.proofs.Common.{◌≡◌, ℕ, zero, suc, ◌+◌, ◌%◌, ◌≤◌, inl, inr, subst, List, [], ◌∷◌, length, drop, Option, Some, None, Ok, refl, sym, ap, ◌∙◌, length-append, length-drop, arith}
 use Rattle.std.proofs.lemmas.List.{length-replicate}
-use Rattle.fidl_wire.specs.Layout.{Cell, Item, number, pad, handle, text, vector, table, num, blank, held, seq, members, size_of, sizes_of, is_known, later}
+use Rattle.fidl_wire.specs.declared.kinds.MemberKind.{MemberKind}
+use Rattle.fidl_wire.specs.Numbers.{padding_after}
+use Rattle.fidl_wire.specs.Layout.{Cell, Item, Member, value, content, number, pad, handle, text, vector, table, num, blank, held, seq, members, size_of, sizes_of, next_kind, later}
 use Rattle.fidl_wire.specs.Cursor.{Cursor}
 use Rattle.fidl_wire.specs.Reading.{◌>>=◌, cell_at, cells_at}
-use Rattle.fidl_wire.specs.Grammar.{Part, nothing, join, IsMember, AreMembers, Spells, Lays}
+use Rattle.fidl_wire.specs.Grammar.{Part, nothing, join, IsBytesMember, IsMember, AreMembers, Spells, Lays}
 use Rattle.fidl_wire.proofs.Sizes.{padded-mod}
 use Rattle.wire_laws.proofs.Slices.{Begins, begins-length}
 use Rattle.wire_laws.proofs.Steps.{bind_ok}
@@ -22,7 +24,7 @@ cell_read (pad size) blank c p within t = pad_read size c p t
 cell_read (handle kind nullable) (held h) c p within t = handle_read kind nullable h c p t
 cell_read text (seq xs) c p within t = text_read xs c p within t
 cell_read vector (seq xs) c p within t = vector_read xs c p within t
-cell_read (table known) (members vs) c p within t = table_read known vs c p within t
+cell_read (table kinds) (members vs) c p within t = table_read kinds vs c p within t
 cell_read _ _ c p within t = absurd t.spells
 
 pub cell_sound : (cell : Cell) (c : Cursor) (r : Item × Cursor) → c.end ≤ length c.message → cell_at cell c ≡ Ok r → Sound cell c
@@ -31,7 +33,7 @@ cell_sound (pad size) c r within h = pad_sound size c r within h
 cell_sound (handle kind nullable) c r within h = handle_sound kind nullable c r within h
 cell_sound text c r within h = text_sound c r within h
 cell_sound vector c r within h = vector_sound c r within h
-cell_sound (table known) c r within h = table_sound known c r within h
+cell_sound (table kinds) c r within h = table_sound kinds c r within h
 
 pub length-cell : (cell : Cell) (x : Item) (p : Part) → Spells cell x p → length p.inline ≡ size_of cell
 length-cell (number size) (num x) p s = s.0.size_is
@@ -40,19 +42,25 @@ length-cell (handle kind nullable) (held None) p s = s.1.size_is
 length-cell (handle kind nullable) (held (Some h)) p s = s.1.mark.size_is
 length-cell text (seq xs) p s = s.1.count.size_is
 length-cell vector (seq xs) p s = s.count.size_is
-length-cell (table known) (members vs) p s = s.head.size_is
+length-cell (table kinds) (members vs) p s = s.head.size_is
 length-cell _ _ p s = absurd s
 
 -- what is out of line is a multiple of eight
-aligned-member : (known : Bool) (v : Option ℕ) (p : Part) → IsMember known v p → length p.outside % 8 ≡ 0
-aligned-member known None p (inl absent) = rw absent.rest.outside_is refl
-aligned-member known None p (inr unknown) = elim unknown.1 [ inl short ↦ rw short.outside_is refl | inr long ↦ long.aligned ]
-aligned-member known (Some x) p n = rw n.1.value.size_is refl
+aligned-bytes : (xs : List ℕ) (p : Part) → IsBytesMember xs p → length p.outside % 8 ≡ 0
+unfolding padding_after
+aligned-bytes xs p b =
+    omega (arith, ap length b.outside_is, length-append b.vector.inline b.vector.outside, b.is_list.count.size_is, ap length b.is_list.outside_is, length-padded_bytes xs)
 
-aligned-members : (known : List Bool) (vs : List (Option ℕ)) (n : ℕ) (p : Part) → AreMembers known vs n p → (length p.inline + length p.outside) % 8 ≡ 0
-aligned-members known vs zero p h = rw h.1 refl
-aligned-members known vs (suc n) p (v, ws, first, rest, e, member, others, same) =
-    rw (same, length-append, length-append) (omega (arith, length-member (is_known known) v first member, aligned-member (is_known known) v first member, aligned-members (later known) ws n rest others))
+aligned-member : (k : MemberKind) (v : Option Member) (p : Part) → IsMember k v p → length p.outside % 8 ≡ 0
+aligned-member k None p (inl absent) = rw absent.rest.outside_is refl
+aligned-member k None p (inr unknown) = elim unknown.1 [ inl short ↦ rw short.outside_is refl | inr long ↦ long.aligned ]
+aligned-member k (Some (value x)) p n = rw n.2.value.size_is refl
+aligned-member k (Some (content xs)) p n = aligned-bytes xs p n.2
+
+aligned-members : (kinds : List MemberKind) (vs : List (Option Member)) (n : ℕ) (p : Part) → AreMembers kinds vs n p → (length p.inline + length p.outside) % 8 ≡ 0
+aligned-members kinds vs zero p h = rw h.1 refl
+aligned-members kinds vs (suc n) p (v, ws, first, rest, e, member, others, same) =
+    rw (same, length-append, length-append) (omega (arith, length-member (next_kind kinds) v first member, aligned-member (next_kind kinds) v first member, aligned-members (later kinds) ws n rest others))
 
 pub aligned-cell : (cell : Cell) (x : Item) (p : Part) → Spells cell x p → length p.outside % 8 ≡ 0
 aligned-cell (number size) (num x) p s = rw s.1.outside_is refl
@@ -61,7 +69,7 @@ aligned-cell (handle kind nullable) (held None) p s = rw s.2.outside_is refl
 aligned-cell (handle kind nullable) (held (Some h)) p s = rw s.1.outside_is refl
 aligned-cell text (seq xs) p s = rw (s.1.outside_is, length-padded_bytes xs) (padded-mod (length xs))
 aligned-cell vector (seq xs) p s = rw (s.outside_is, length-padded_bytes xs) (padded-mod (length xs))
-aligned-cell (table known) (members vs) p s = rw (s.outside_is, length-append) (aligned-members known vs s.count s.slots s.members_are)
+aligned-cell (table kinds) (members vs) p s = rw (s.outside_is, length-append) (aligned-members kinds vs s.count s.slots s.members_are)
 aligned-cell _ _ p s = absurd s
 
 pub aligned-lays : (cells : List Cell) (xs : List Item) (p : Part) → Lays cells xs p → length p.outside % 8 ≡ 0

@@ -51,47 +51,68 @@ envelope_spelled bytes handles flags a b c =
 
 -- ---- tables
 
-kept_none : (g : List (Option ℕ)) → kept None g ≡ [] → g ≡ []
+kept_none : (g : List (Option Member)) → kept None g ≡ [] → g ≡ []
 kept_none [] h = refl
 kept_none (v ∷ g) h = absurd (cc)
 
 -- where no member is given, each is none
-given_none : (vs : List (Option ℕ)) → given vs ≡ [] → vs ≡ replicate (length vs) None
+given_none : (vs : List (Option Member)) → given vs ≡ [] → vs ≡ replicate (length vs) None
 given_none [] h = refl
-given_none (None ∷ vs) h = ap (λ (ws : List (Option ℕ)). None ∷ ws) (given_none vs (kept_none (given vs) h))
+given_none (None ∷ vs) h = ap (λ (ws : List (Option Member)). None ∷ ws) (given_none vs (kept_none (given vs) h))
 given_none (Some x ∷ vs) h = absurd (cc)
 
-length-fit : (known : List Bool) (vs : List (Option ℕ)) → FitMembers known vs → length vs ≡ length known
+length-fit : (kinds : List MemberKind) (vs : List (Option Member)) → FitMembers kinds vs → length vs ≡ length kinds
 length-fit [] [] h = refl
 length-fit (k ∷ ks) (None ∷ vs) h = omega (arith, length-fit ks vs h)
-length-fit (k ∷ ks) (Some x ∷ vs) h = omega (arith, length-fit ks vs h.2)
+length-fit (k ∷ ks) (Some x ∷ vs) h = omega (arith, length-fit ks vs h.1)
 length-fit [] (v ∷ vs) h = absurd h
 length-fit (k ∷ ks) [] h = absurd h
 
-absent_member : (known : Bool) → IsMember known None (member_part None)
-absent_member known = inl (record { envelope = number_alone 8 0 (lit< tt); rest = record { outside_is = refl; handles_are = refl } })
+absent_member : (k : MemberKind) → IsMember k None (member_part None)
+absent_member k = inl (record { envelope = number_alone 8 0 (lit< tt); rest = record { outside_is = refl; handles_are = refl } })
 
-number_member : (x : ℕ) → x < 256 ^ 8 → IsNumberMember x (member_part (Some x))
+number_member : (x : ℕ) → x < 256 ^ 8 → IsNumberMember x (member_part (Some (value x)))
 number_member x h = record { envelope = envelope_spelled 8 0 0 (lit< tt) (lit< tt) (lit< tt); value = number_alone 8 x h; handles_are = refl }
 
-members_spelled : (known : List Bool) (vs : List (Option ℕ)) → FitMembers known vs → AreMembers known vs (length (given vs)) (members_part (given vs))
+-- the bytes of an envelope's count are those of a list and its padding
+pub length-list_part : (xs : List ℕ) → length (count_bytes (length xs) ++ padded_bytes xs) ≡ 16 + padded (length xs)
+length-list_part xs =
+    omega (arith, length-append (count_bytes (length xs)) (padded_bytes xs), length-append (number_bytes 8 (length xs)) (number_bytes 8 present_list), length-number_bytes 8 (length xs), length-number_bytes 8 present_list, length-padded_bytes xs)
+
+small_list : (n : ℕ) → 16 + padded n < 256 ^ 4 → n < 256 ^ 8
+small_list n h = omega arith
+
+bytes_member : (xs : List ℕ) → 16 + padded (length xs) < 256 ^ 4 → IsBytesMember xs (member_part (Some (content xs)))
+bytes_member xs h = record {
+  vector = list_part_of xs;
+  is_list = record { count = count_spelled (length xs) (small_list (length xs) h); outside_is = refl; handles_are = refl };
+  envelope = subst (λ (n : ℕ). IsEnvelope n 0 0 (member_part (Some (content xs))).inline) (sym (length-list_part xs)) (envelope_spelled (16 + padded (length xs)) 0 0 h (lit< tt) (lit< tt));
+  outside_is = refl;
+  handles_are = refl;
+}
+
+given_member : (k : MemberKind) (v : Member) → FitsMember k v → IsMember k (Some v) (member_part (Some v))
+given_member k (value x) (required, same, small) = (required, same, number_member x small)
+given_member k (content xs) (required, same, small) = (required, same, bytes_member xs small)
+
+members_spelled : (kinds : List MemberKind) (vs : List (Option Member)) → FitMembers kinds vs → AreMembers kinds vs (length (given vs)) (members_part (given vs))
 members_spelled [] [] h = (refl, refl)
 members_spelled (k ∷ ks) (None ∷ vs) h =
     elim (given vs) as (λ g. given vs ≡ g → AreMembers (k ∷ ks) (None ∷ vs) (length (kept None g)) (members_part (kept None g))) [
-      | [] ↦ λ none. (ap (λ (ws : List (Option ℕ)). None ∷ ws) (given_none vs none ∙ ap (λ n. replicate n None) (length-fit ks vs h)), refl)
-      | w ∷ ws ↦ λ some. (None, vs, member_part None, members_part (w ∷ ws), refl, absent_member k, subst (λ (g : List (Option ℕ)). AreMembers ks vs (length g) (members_part g)) some (members_spelled ks vs h), refl)
+      | [] ↦ λ none. (ap (λ (ws : List (Option Member)). None ∷ ws) (given_none vs none ∙ ap (λ n. replicate n None) (length-fit ks vs h)), refl)
+      | w ∷ ws ↦ λ some. (None, vs, member_part None, members_part (w ∷ ws), refl, absent_member k, subst (λ (g : List (Option Member)). AreMembers ks vs (length g) (members_part g)) some (members_spelled ks vs h), refl)
     ] refl
 members_spelled (k ∷ ks) (Some x ∷ vs) h =
-    (Some x, vs, member_part (Some x), members_part (given vs), refl, (h.0, number_member x h.1), members_spelled ks vs h.2, refl)
+    (Some x, vs, member_part (Some x), members_part (given vs), refl, given_member k x h.0, members_spelled ks vs h.1, refl)
 members_spelled [] (v ∷ vs) h = absurd h
 members_spelled (k ∷ ks) [] h = absurd h
 
-length-kept : (v : Option ℕ) (g : List (Option ℕ)) → length (kept v g) ≤ suc (length g)
+length-kept : (v : Option Member) (g : List (Option Member)) → length (kept v g) ≤ suc (length g)
 length-kept None [] = omega arith
 length-kept None (w ∷ g) = omega arith
 length-kept (Some x) g = omega arith
 
-length-given : (vs : List (Option ℕ)) → length (given vs) ≤ length vs
+length-given : (vs : List (Option Member)) → length (given vs) ≤ length vs
 length-given [] = omega arith
 length-given (v ∷ vs) = omega (arith, length-kept v (given vs), length-given vs)
 
@@ -110,11 +131,12 @@ cell_spelled (pad size) blank f = (refl, record { outside_is = refl; handles_are
 cell_spelled (handle kind nullable) (held h) f = handle_spelled nullable (is_kind kind) h f
 cell_spelled text (seq xs) f = (f.0, list_spelled xs f.1)
 cell_spelled vector (seq xs) f = list_spelled xs f
-cell_spelled (table known) (members vs) f = record {
+cell_spelled (table kinds) (members vs) f = record {
   count = length (given vs);
   slots = members_part (given vs);
   head = count_spelled (length (given vs)) (omega (arith, length-given vs, f.0));
-  members_are = members_spelled known vs f.1;
+  members_are = members_spelled kinds vs f.1;
+  required = f.2;
   outside_is = refl;
   handles_are = refl;
 }

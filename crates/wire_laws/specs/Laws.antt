@@ -7,7 +7,7 @@ use Rattle.fidl_wire.specs.declared.faults.WireFault.{WireFault}
 use Rattle.fidl_wire.specs.declared.headers.Header.{Header}
 use Rattle.fidl_wire.specs.Epitaphs.{epitaph_bytes, IsEpitaph}
 use Rattle.fidl_wire.specs.Headers.{header_of, header_bytes}
-use Rattle.fidl_wire.specs.Layout.{Layout, Content}
+use Rattle.fidl_wire.specs.Layout.{Layout, Content, Member}
 use Rattle.fidl_wire.specs.Reading.{body_of}
 use Rattle.fidl_wire.specs.Grammar.{IsSpelled}
 use Rattle.wire_laws.specs.Meanings.{IsFaultOf}
@@ -49,7 +49,7 @@ SpellingIsShortest =
 -- in the spelling of a table, the envelope of each member that isn't given is zero
 abbrev pub AbsentEnvelopesAreZero : Type 0
 AbsentEnvelopesAreZero =
-    (values : List (Option ℕ)) (k : ℕ) → k < length (given values) → slice_index_or (given values) k None ≡ None →
+    (values : List (Option Member)) (k : ℕ) → k < length (given values) → slice_index_or (given values) k None ≡ None →
     slice_range (table_part values).outside (8 * k) (8 * k + 8) ≡ replicate 8 0
 
 -- a fault that is answered is what it says, and no value is spelled there

@@ -7,10 +7,12 @@ use Rattle.fidl_wire.specs.declared.faults.WireFault.{WireFault}
 use Rattle.fidl_wire.specs.declared.faults.WireWhat.{WireWhat}
 use Rattle.fidl_wire.specs.declared.faults.WireWhat.TheVariants.{Short, Padding, Presence, Count, Utf8, Envelope, Ordinal, Handles, Trailing}
 use Rattle.fidl_wire.specs.declared.kinds.HandleKind.{HandleKind}
+use Rattle.fidl_wire.specs.declared.kinds.MemberKind.{MemberKind}
+use Rattle.fidl_wire.specs.declared.kinds.MemberKind.TheVariants as member
 use Rattle.fidl_wire.specs.Numbers.{padded}
-use Rattle.fidl_wire.specs.Layout.{Cell, Item, Variant, Layout, Content, number, pad, handle, text, vector, table, empty, word, object, struct, union, is_kind, is_known, sizes_of, variant_of}
+use Rattle.fidl_wire.specs.Layout.{Cell, Item, Member, Variant, Layout, Content, number, pad, handle, text, vector, table, empty, word, object, struct, union, is_kind, next_kind, has_required, sizes_of, variant_of}
 use Rattle.fidl_wire.specs.Reading.{present_word, present_list, bytes_at, handles_at, flags_at}
-use Rattle.fidl_wire.specs.Grammar.{Part, IsMember, AreMembers, Spells, Lays, IsSpelled}
+use Rattle.fidl_wire.specs.Grammar.{Part, IsList, IsMember, AreMembers, Spells, Lays, IsSpelled}
 
 -- ---- places
 
@@ -149,15 +151,35 @@ EntryFault size at out left message _ = ⊥
 
 -- ---- tables
 
--- a member that is known is a number of eight bytes without handles
+-- a member that is a number is one of eight bytes without handles
 pub record IsNoNumber (at out left : ℕ) (message : List ℕ) : Type 0 where
   pub entered : IsEntered 8 at out left message
   pub counts : bytes_at at message ≡ 8 → handles_at at message ≡ 0 → ⊥
 
--- a known member: its envelope, and then what that counts
-abbrev pub KnownFault : ℕ → ℕ → ℕ → List ℕ → WireWhat → Type 0
-KnownFault at out left message Envelope = EntryFault 8 at out left message Envelope ⊎ IsNoNumber at out left message
-KnownFault at out left message what = EntryFault 8 at out left message what
+-- a member that is a number: its envelope, and then what that counts
+abbrev pub NumberFault : ℕ → ℕ → ℕ → List ℕ → WireWhat → Type 0
+NumberFault at out left message Envelope = EntryFault 8 at out left message Envelope ⊎ IsNoNumber at out left message
+NumberFault at out left message what = EntryFault 8 at out left message what
+
+-- before a list of bytes that stands out of line
+abbrev pub before_bytes : List ℕ → ℕ → Spot
+before_bytes message out = record { message = message; handles = []; place = out; end = out + 16; out = out + 16 }
+
+-- a member that is bytes has them there, and its envelope counts otherwise
+pub record IsMiscounted (at out left : ℕ) (message : List ℕ) : Type 0 where
+  pub entered : IsEntered 16 at out left message
+  pub bytes : List ℕ
+  pub part : Part
+  pub is_list : IsList bytes part
+  pub stands : Stands message out (out + 16) [] part
+  pub counts : bytes_at at message ≡ length part.inline + length part.outside → handles_at at message ≡ 0 → ⊥
+
+-- a member that is a vector of bytes: its envelope, the list at its own place, and then what the envelope counts
+abbrev pub BytesFault : ℕ → ℕ → ℕ → List ℕ → ℕ → WireWhat → Type 0
+BytesFault envelope out left message at what =
+    ((at ≡ envelope) × EntryFault 16 envelope out left message what)
+    ⊎ (IsEntered 16 envelope out left message × ListFault false (before_bytes message out) at what)
+    ⊎ ((at ≡ envelope) × (what ≡ Envelope) × IsMiscounted envelope out left message)
 
 -- one that isn't may have any value, in its envelope or out of line
 pub record IsFewLeft (at left : ℕ) (message : List ℕ) : Type 0 where
@@ -170,33 +192,53 @@ UnknownFault at out left message Handles =
     IsFewLeft at left message ⊎ ((flags_at at message ≢ 1) × EntryFault 0 at out left message Handles)
 UnknownFault at out left message what = (flags_at at message ≢ 1) × EntryFault 0 at out left message what
 
+-- a member that is there, by what it is
+abbrev pub PresentFault : MemberKind → ℕ → ℕ → ℕ → List ℕ → ℕ → WireWhat → Type 0
+PresentFault member.Unknown envelope out left message at what = (at ≡ envelope) × UnknownFault envelope out left message what
+PresentFault (member.Number required) envelope out left message at what = (at ≡ envelope) × NumberFault envelope out left message what
+PresentFault (member.Bytes required) envelope out left message at what = BytesFault envelope out left message at what
+
 -- an absent member has no fault
-abbrev pub MemberFault : Bool → ℕ → ℕ → ℕ → List ℕ → WireWhat → Type 0
-MemberFault true at out left message what = (number_at 8 at message ≢ 0) × KnownFault at out left message what
-MemberFault false at out left message what = (number_at 8 at message ≢ 0) × UnknownFault at out left message what
+abbrev pub MemberFault : MemberKind → ℕ → ℕ → ℕ → List ℕ → ℕ → WireWhat → Type 0
+MemberFault kind envelope out left message at what = (number_at 8 envelope message ≢ 0) × PresentFault kind envelope out left message at what
 
 -- no part spells the member whose envelope is next
-abbrev pub NoneIsMember : Bool → List ℕ → ℕ → ℕ → List Handle → Type 0
-NoneIsMember known message at out handles = (v : Option ℕ) (p : Part) → Stands message at out handles p → IsMember known v p → ⊥
+abbrev pub NoneIsMember : MemberKind → List ℕ → ℕ → ℕ → List Handle → Type 0
+NoneIsMember kind message envelope out handles = (v : Option Member) (p : Part) → Stands message envelope out handles p → IsMember kind v p → ⊥
 
 -- behind some members, which are spelled, the next has the fault
-pub record MembersFault (known : List Bool) (count first out : ℕ) (handles : List Handle) (message : List ℕ) (at : ℕ) (what : WireWhat) : Type 0 where
+pub record MembersFault (kinds : List MemberKind) (count first out : ℕ) (handles : List Handle) (message : List ℕ) (at : ℕ) (what : WireWhat) : Type 0 where
   pub before : ℕ
   pub below : before < count
-  pub values : List (Option ℕ)
+  pub values : List (Option Member)
   pub part : Part
-  pub members_are : AreMembers known values before part
+  pub members_are : AreMembers kinds values before part
   pub stands : Stands message first out handles part
-  pub place : at ≡ first + length part.inline
-  pub means : MemberFault (is_known (drop before known)) at (out + length part.outside) (length handles - length part.handles) message what
-  pub none : NoneIsMember (is_known (drop before known)) message at (out + length part.outside) (drop (length part.handles) handles)
+  pub means : MemberFault (next_kind (drop before kinds)) (first + length part.inline) (out + length part.outside) (length handles - length part.handles) message at what
+  pub none : NoneIsMember (next_kind (drop before kinds)) message (first + length part.inline) (out + length part.outside) (drop (length part.handles) handles)
 
--- a table: its mark, its count, and then its members
-abbrev pub TableFault : List Bool → Spot → ℕ → WireWhat → Type 0
-TableFault known s at Presence = (at ≡ s.place) × (mark_of s ≢ present_list)
-TableFault known s at Count = (at ≡ s.place) × (mark_of s ≡ present_list) × (length s.message < s.out + 8 * count_of s)
-TableFault known s at what =
-    IsThere s (8 * count_of s) × MembersFault known (count_of s) s.out (s.out + 8 * count_of s) s.handles s.message at what
+-- all members are spelled, and one that has to be there isn't
+pub record LacksMember (kinds : List MemberKind) (count first out : ℕ) (handles : List Handle) (message : List ℕ) : Type 0 where
+  pub values : List (Option Member)
+  pub part : Part
+  pub members_are : AreMembers kinds values count part
+  pub stands : Stands message first out handles part
+  pub lacks : has_required kinds values ≡ false
+
+-- a table's mark, and its count
+abbrev pub HeadFault : Spot → ℕ → WireWhat → Type 0
+HeadFault s at Presence = (at ≡ s.place) × (mark_of s ≢ present_list)
+HeadFault s at Count = (at ≡ s.place) × (mark_of s ≡ present_list) × (length s.message < s.out + 8 * count_of s)
+HeadFault s at _ = ⊥
+
+-- its members, and then at its count one that has to be there
+abbrev pub AnyMemberFault : List MemberKind → Spot → ℕ → WireWhat → Type 0
+AnyMemberFault kinds s at what =
+    MembersFault kinds (count_of s) s.out (s.out + 8 * count_of s) s.handles s.message at what
+    ⊎ ((at ≡ s.place) × (what ≡ Envelope) × LacksMember kinds (count_of s) s.out (s.out + 8 * count_of s) s.handles s.message)
+
+abbrev pub TableFault : List MemberKind → Spot → ℕ → WireWhat → Type 0
+TableFault kinds s at what = HeadFault s at what ⊎ (IsThere s (8 * count_of s) × AnyMemberFault kinds s at what)
 
 -- ---- objects
 
@@ -207,7 +249,7 @@ CellFault (pad size) s at what = PadFault size s at what
 CellFault (handle kind nullable) s at what = HandleFault kind nullable s at what
 CellFault text s at what = ListFault true s at what
 CellFault vector s at what = ListFault false s at what
-CellFault (table known) s at what = TableFault known s at what
+CellFault (table kinds) s at what = TableFault kinds s at what
 
 -- behind some cells, which are spelled by what they took, the next has the fault
 pub record CellsFault (cells : List Cell) (s : Spot) (at : ℕ) (what : WireWhat) : Type 0 where

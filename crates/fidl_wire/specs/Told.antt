@@ -1,0 +1,13 @@
+-- What a member of a table has, without where its bytes lie in memory.
+use Rattle.std.specs.Prelude.{List, map, Option}
+use Rattle.std.specs.Option.{option_map}
+use Rattle.fidl_wire.specs.declared.kinds.Member.{Member as MemberNow}
+use Rattle.fidl_wire.specs.declared.kinds.Member.TheVariants as member
+use Rattle.fidl_wire.specs.Layout.{Member, value, content}
+
+abbrev pub told : MemberNow → Member
+told (member.Number x) = value x
+told (member.Bytes bytes) = content bytes.now
+
+abbrev pub all_told : List (Option MemberNow) → List (Option Member)
+all_told values = map (option_map told) values
