@@ -11,7 +11,7 @@ use Rattle.fidl_wire.specs.declared.kinds.MemberKind.TheVariants as kind
 use Rattle.fidl_names.specs.Numbers.{number_at}
 use Rattle.fidl_wire.specs.Cursor.{Cursor}
 use Rattle.fidl_wire.specs.Headers.{fault}
-use Rattle.fidl_wire.specs.Layout.{Item, Member, value, content, table, members, has_required}
+use Rattle.fidl_wire.specs.Layout.{Item, Member, a_number, a_vector, table, members, has_required}
 use Rattle.fidl_wire.specs.Reading.{◌>>=◌, check, bytes_at, handles_at, is_absent, entered, skipped, before_list, list_cell, inline_at, count_at, passed, present_member, member_at, members_at, table_at, table_cell, cell_at}
 use Rattle.fidl_wire.specs.Told.{told, all_told}
 
@@ -22,8 +22,8 @@ bind_ok (Err e) f b h = absurd (cc)
 -- what is there is of its kind
 abbrev IsOfKind : MemberKind → Option Member → Type 0
 IsOfKind k None = Unit {0}
-IsOfKind k (Some (value x)) = (required : Bool) × (k ≡ kind.Number required)
-IsOfKind k (Some (content xs)) = (required : Bool) × (k ≡ kind.Bytes required)
+IsOfKind k (Some (a_number x)) = (required : Bool) × (k ≡ kind.Number required)
+IsOfKind k (Some (a_vector xs)) = (required : Bool) × (k ≡ kind.Bytes required)
 
 present_kind : (k : MemberKind) (at : ℕ) (m : List ℕ) (o : Outside) (r : Option Member × Outside) → present_member k at m o ≡ Ok r → IsOfKind k r.0
 present_kind kind.Unknown at m o r h =
@@ -31,18 +31,18 @@ present_kind kind.Unknown at m o r h =
     let none : None ≡ r.0 = cc in
     subst (IsOfKind kind.Unknown) none tt
 present_kind (kind.Number required) at m o r h =
-    let last : Unit {0} → Result (Option Member × Outside) WireFault = λ _. Ok (Some (value (number_at 8 o.out m)), record o { out = o.out + 8 }) in
+    let last : Unit {0} → Result (Option Member × Outside) WireFault = λ _. Ok (Some (a_number (number_at 8 o.out m)), record o { out = o.out + 8 }) in
     let in_form = bind_ok (entered at 8 m o) (λ _. check ((bytes_at at m == 8) && (handles_at at m == 0)) (fault at Envelope) >>= last) r h in
     let counted = bind_ok (check ((bytes_at at m == 8) && (handles_at at m == 0)) (fault at Envelope)) last r in_form.2 in
-    let got : Some (value (number_at 8 o.out m)) ≡ r.0 = cc in
+    let got : Some (a_number (number_at 8 o.out m)) ≡ r.0 = cc in
     subst (IsOfKind (kind.Number required)) got (required, refl)
 present_kind (kind.Bytes required) at m o r h =
     let counts : List ℕ × Cursor → Bool = λ list. (o.out + bytes_at at m == list.1.out) && (handles_at at m == 0) in
-    let last : List ℕ × Cursor → Option Member × Outside = λ list. (Some (content list.0), record o { out = list.1.out }) in
+    let last : List ℕ × Cursor → Option Member × Outside = λ list. (Some (a_vector list.0), record o { out = list.1.out }) in
     let in_form = bind_ok (entered at 16 m o) (λ _. list_cell false (before_list m o.out) >>= λ list. check (counts list) (fault at Envelope) >>= λ _. Ok (last list)) r h in
     let read = bind_ok (list_cell false (before_list m o.out)) (λ list. check (counts list) (fault at Envelope) >>= λ _. Ok (last list)) r in_form.2 in
     let counted = bind_ok (check (counts read.0) (fault at Envelope)) (λ _. Ok (last read.0)) r read.2 in
-    let got : Some (content read.0.0) ≡ r.0 = cc in
+    let got : Some (a_vector read.0.0) ≡ r.0 = cc in
     subst (IsOfKind (kind.Bytes required)) got (required, refl)
 
 member_kind : (k : MemberKind) (at : ℕ) (m : List ℕ) (o : Outside) (r : Option Member × Outside) → member_at k at m o ≡ Ok r → IsOfKind k r.0
@@ -106,8 +106,8 @@ wrong_kind : (required : Bool) (values : List (Option MemberNow)) (b : Bor (List
 unfolding FirstIs
 wrong_kind required [] b there f = cc
 wrong_kind required (w ∷ ws) b there f =
-    let same : Some (content b.now) ≡ f.0 = sym (ap (option_map told) there) ∙ head_same (option_map told w) f.0 (all_told ws) f.1 f.2 in
-    let kinds : IsOfKind (kind.Number required) (Some (content b.now)) = subst (IsOfKind (kind.Number required)) (sym same) f.3 in
+    let same : Some (a_vector b.now) ≡ f.0 = sym (ap (option_map told) there) ∙ head_same (option_map told w) f.0 (all_told ws) f.1 f.2 in
+    let kinds : IsOfKind (kind.Number required) (Some (a_vector b.now)) = subst (IsOfKind (kind.Number required)) (sym same) f.3 in
     let bad : kind.Number required ≡ kind.Bytes kinds.0 = kinds.1 in
     cc
 
@@ -124,8 +124,8 @@ unfolding FirstIs
 right_kind [] f = let e = f.first.2 in absurd (cc)
 right_kind (None ∷ ws) f = let e = f.there in absurd (cc)
 right_kind (Some (now.Number x) ∷ ws) f =
-    let same : Some (value x) ≡ f.first.0 = head_same (Some (value x)) f.first.0 (all_told ws) f.first.1 f.first.2 in
-    let kinds : IsOfKind (kind.Bytes true) (Some (value x)) = subst (IsOfKind (kind.Bytes true)) (sym same) f.first.3 in
+    let same : Some (a_number x) ≡ f.first.0 = head_same (Some (a_number x)) f.first.0 (all_told ws) f.first.1 f.first.2 in
+    let kinds : IsOfKind (kind.Bytes true) (Some (a_number x)) = subst (IsOfKind (kind.Bytes true)) (sym same) f.first.3 in
     let bad : kind.Bytes true ≡ kind.Number kinds.0 = kinds.1 in
     absurd (cc)
 right_kind (Some (now.Bytes b) ∷ ws) f = (b, refl)

@@ -6,7 +6,7 @@ use Rattle.fidl_names.specs.Numbers.{number_at}
 use Rattle.fidl_wire.specs.Written.{padded_bytes}
 use Rattle.fidl_wire.specs.declared.kinds.MemberKind.{MemberKind}
 use Rattle.fidl_wire.specs.declared.kinds.MemberKind.TheVariants as kind
-use Rattle.fidl_wire.specs.Layout.{Cell, Item, Member, Variant, Layout, Content, number, pad, handle, text, vector, table, value, content, num, blank, held, seq, members, empty, word, object, struct, union, fields, branch, is_kind, next_kind, later, with_member, has_required, sizes_of, variant_of}
+use Rattle.fidl_wire.specs.Layout.{Cell, Item, Member, Variant, Layout, Content, number, pad, handle, text, vector, table, a_number, a_vector, num, blank, held, seq, members, empty, word, object, struct, union, fields, branch, is_kind, next_kind, later, with_member, has_required, sizes_of, variant_of}
 use Rattle.fidl_wire.specs.Reading.{present_word, present_list}
 
 -- what spells a cell: bytes in its object, bytes out of line, and handles
@@ -95,8 +95,8 @@ pub record IsBytesMember (xs : List ℕ) (p : Part) : Type 0 where
 
 -- a member with this number or these bytes, absent, or skipped where it is not known
 abbrev pub IsMember : MemberKind → Option Member → Part → Type 0
-IsMember k (Some (value x)) p = (required : Bool) × (k ≡ kind.Number required) × IsNumberMember x p
-IsMember k (Some (content xs)) p = (required : Bool) × (k ≡ kind.Bytes required) × IsBytesMember xs p
+IsMember k (Some (a_number x)) p = (required : Bool) × (k ≡ kind.Number required) × IsNumberMember x p
+IsMember k (Some (a_vector xs)) p = (required : Bool) × (k ≡ kind.Bytes required) × IsBytesMember xs p
 IsMember k None p = IsAbsent p ⊎ ((k ≡ kind.Unknown) × (IsSkippedShort p ⊎ IsSkippedLong p))
 
 -- so many members

@@ -23,8 +23,8 @@ pub data Cell : Type 0 where
 
 -- what a member of a table has: a number, or bytes
 pub data Member : Type 0 where
-  value : ℕ → Member
-  content : List ℕ → Member
+  a_number : ℕ → Member
+  a_vector : List ℕ → Member
 
 -- what a value has in a cell
 pub data Item : Type 0 where

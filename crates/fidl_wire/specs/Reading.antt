@@ -14,7 +14,7 @@ use Rattle.fidl_wire.specs.declared.faults.WireWhat.TheVariants.{Short, Padding,
 use Rattle.fidl_names.specs.Numbers.{number_at}
 use Rattle.fidl_wire.specs.Numbers.{padded}
 use Rattle.fidl_wire.specs.Headers.{fault}
-use Rattle.fidl_wire.specs.Layout.{Cell, Item, Member, Variant, Layout, Content, empty, word, object, struct, union, fields, branch, sizes_of, variant_of, number, pad, handle, text, vector, table, value, content, num, blank, held, seq, members, is_kind, next_kind, later, with_member, has_required}
+use Rattle.fidl_wire.specs.Layout.{Cell, Item, Member, Variant, Layout, Content, empty, word, object, struct, union, fields, branch, sizes_of, variant_of, number, pad, handle, text, vector, table, a_number, a_vector, num, blank, held, seq, members, is_kind, next_kind, later, with_member, has_required}
 use Rattle.fidl_wire.specs.Cursor.{Cursor, outside_of, start_of}
 
 infixl 10 ◌>>=◌
@@ -153,7 +153,7 @@ abbrev pub number_member : ℕ → List ℕ → Outside → MemberStep
 number_member at message o =
     entered at 8 message o
     >>= λ _. check ((bytes_at at message == 8) && (handles_at at message == 0)) (fault at Envelope)
-    >>= λ _. Ok (Some (value (number_at 8 o.out message)), record o { out = o.out + 8 })
+    >>= λ _. Ok (Some (a_number (number_at 8 o.out message)), record o { out = o.out + 8 })
 
 -- before a list that stands behind what was read so far
 abbrev pub before_list : List ℕ → ℕ → Cursor
@@ -165,7 +165,7 @@ bytes_member at message o =
     entered at 16 message o
     >>= λ _. list_cell false (before_list message o.out)
     >>= λ list. check ((o.out + bytes_at at message == list.1.out) && (handles_at at message == 0)) (fault at Envelope)
-    >>= λ _. Ok (Some (content list.0), record o { out = list.1.out })
+    >>= λ _. Ok (Some (a_vector list.0), record o { out = list.1.out })
 
 -- a member that is there
 abbrev pub present_member : MemberKind → ℕ → List ℕ → Outside → MemberStep

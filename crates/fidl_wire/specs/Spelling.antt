@@ -7,7 +7,7 @@ use Rattle.fidl_wire.specs.Written.{padded_bytes}
 use Rattle.fidl_wire.specs.declared.kinds.MemberKind.{MemberKind}
 use Rattle.fidl_wire.specs.declared.kinds.MemberKind.TheVariants as kind
 use Rattle.fidl_wire.specs.Numbers.{padded}
-use Rattle.fidl_wire.specs.Layout.{Cell, Item, Member, Variant, Layout, Content, number, pad, handle, text, vector, table, value, content, num, blank, held, seq, members, empty, word, object, struct, union, fields, branch, is_kind, has_required, sizes_of, variant_of}
+use Rattle.fidl_wire.specs.Layout.{Cell, Item, Member, Variant, Layout, Content, number, pad, handle, text, vector, table, a_number, a_vector, num, blank, held, seq, members, empty, word, object, struct, union, fields, branch, is_kind, has_required, sizes_of, variant_of}
 use Rattle.fidl_wire.specs.Reading.{present_word, present_list}
 use Rattle.fidl_wire.specs.Grammar.{Part, nothing, join}
 
@@ -26,8 +26,8 @@ envelope_bytes bytes handles flags = number_bytes 4 bytes ++ number_bytes 2 hand
 
 abbrev pub member_part : Option Member → Part
 member_part None = inline_part (number_bytes 8 0)
-member_part (Some (value x)) = record { inline = envelope_bytes 8 0 0; outside = number_bytes 8 x; handles = [] }
-member_part (Some (content xs)) =
+member_part (Some (a_number x)) = record { inline = envelope_bytes 8 0 0; outside = number_bytes 8 x; handles = [] }
+member_part (Some (a_vector xs)) =
     record { inline = envelope_bytes (16 + padded (length xs)) 0 0; outside = count_bytes (length xs) ++ padded_bytes xs; handles = [] }
 
 abbrev pub members_part : List (Option Member) → Part
@@ -74,8 +74,8 @@ spelling_of_all _ _ = nothing
 
 -- what a member has is of its kind: a number of eight bytes, or bytes that an envelope can count
 abbrev pub FitsMember : MemberKind → Member → Type 0
-FitsMember k (value x) = (required : Bool) × (k ≡ kind.Number required) × (x < 256 ^ 8)
-FitsMember k (content xs) = (required : Bool) × (k ≡ kind.Bytes required) × (16 + padded (length xs) < 256 ^ 4)
+FitsMember k (a_number x) = (required : Bool) × (k ≡ kind.Number required) × (x < 256 ^ 8)
+FitsMember k (a_vector xs) = (required : Bool) × (k ≡ kind.Bytes required) × (16 + padded (length xs) < 256 ^ 4)
 
 abbrev pub FitMembers : List MemberKind → List (Option Member) → Type 0
 FitMembers [] [] = Unit {0}

@@ -1,6 +1,6 @@
 ghost use Rattle.std.specs.Prelude.{◌≡◌, ◌+◌, ◌%◌, ◌<◌, ◌≤◌, ◌==◌, true, false, [], ◌∷◌, Some, None, IsSome, IfSome, option_map, length, replicate, Ok, Err, IfOk, IfErr, OnOk, OnErr};
 ghost use Rattle.std.specs.Int.{w32, w64, cast_unsigned};
-ghost use Rattle.fidl_wire.specs.Layout.{number, pad, handle, text, vector, table, value, content, num, blank, held, seq, members, is_kind};
+ghost use Rattle.fidl_wire.specs.Layout.{number, pad, handle, text, vector, table, a_number, a_vector, num, blank, held, seq, members, is_kind};
 ghost use Rattle.fidl_wire.specs.Cursor.{Cursor, start_of, outside_of};
 ghost use Rattle.fidl_wire.specs.Told.{all_told};
 ghost use Rattle.fidl_wire.specs.Within.{IsPart};
@@ -324,7 +324,7 @@ impl<'a, 'h> Body<'a, 'h> {
 
     /// The next field, a table whose member 1 alone is known, a number of eight bytes that may be absent.
     pub fn table_u64(&mut self) -> Result<Option<u64>, WireFault>
-        ensures value { IfOk result (λ x. cell_at (table (MemberKind.Number false ∷ [])) self.old ≡ Ok (members (option_map value x ∷ []), self.new)) }
+        ensures value { IfOk result (λ x. cell_at (table (MemberKind.Number false ∷ [])) self.old ≡ Ok (members (option_map a_number x ∷ []), self.new)) }
         ensures fault { IfErr result (λ e. cell_at (table (MemberKind.Number false ∷ [])) self.old ≡ Err e) }
         ensures unchanged { OnErr result (self.new ≡ self.old) }
     {
@@ -340,7 +340,7 @@ impl<'a, 'h> Body<'a, 'h> {
     /// The next field, a table whose member 1 alone is known, a vector of bytes that has to be there: the part of
     /// the message that has them. `Envelope` at the table's count where it is absent.
     pub fn table_bytes(&mut self) -> Result<&'a [u8], WireFault>
-        ensures value { IfOk result (λ part. cell_at (table (MemberKind.Bytes true ∷ [])) self.old ≡ Ok (members (Some (content part.now) ∷ []), self.new)) }
+        ensures value { IfOk result (λ part. cell_at (table (MemberKind.Bytes true ∷ [])) self.old ≡ Ok (members (Some (a_vector part.now) ∷ []), self.new)) }
         ensures fault { IfErr result (λ e. cell_at (table (MemberKind.Bytes true ∷ [])) self.old ≡ Err e) }
         ensures unchanged { OnErr result (self.new ≡ self.old) }
     {

@@ -2,7 +2,7 @@ ghost use Rattle.std.specs.Prelude.{◌≡◌, ◌+◌, ◌-◌, ◌==◌, ◌�
 ghost use Rattle.fidl_wire.specs.Numbers.{padded};
 ghost use Rattle.fidl_wire.specs.Within.{IsPlaced};
 ghost use Rattle.fidl_wire.specs.Reading.{bytes_at, handles_at, flags_at, is_absent, is_inlined, is_outside, enough_handles, entered, skipped, number_member, bytes_member, member_at};
-ghost use Rattle.fidl_wire.specs.Layout.{value, content};
+ghost use Rattle.fidl_wire.specs.Layout.{a_number, a_vector};
 ghost use Rattle.fidl_wire.specs.Told.{told};
 
 use crate::cursor::Body;
@@ -136,7 +136,7 @@ fn skip(message: &[u8], at: usize, outside: Outside) -> Result<Outside, WireFaul
 fn number(message: &[u8], at: usize, outside: Outside) -> Result<(u64, Outside), WireFault>
     requires envelope { at + 8 ≤ length message.now }
     requires placed { IsPlaced (length message.now) outside }
-    ensures value { IfOk result (λ r. number_member at message.now outside ≡ Ok (Some (value r.0), r.1)) }
+    ensures value { IfOk result (λ r. number_member at message.now outside ≡ Ok (Some (a_number r.0), r.1)) }
     ensures fault { IfErr result (λ e. number_member at message.now outside ≡ Err e) }
     ensures placed { IfOk result (λ r. IsPlaced (length message.now) r.1) }
     ensures left { IfOk result (λ r. r.1.left ≤ outside.left) }
@@ -159,7 +159,7 @@ fn number(message: &[u8], at: usize, outside: Outside) -> Result<(u64, Outside),
 fn bytes<'a>(message: &'a [u8], at: usize, outside: Outside) -> Result<(&'a [u8], Outside), WireFault>
     requires envelope { at + 8 ≤ length message.now }
     requires placed { IsPlaced (length message.now) outside }
-    ensures value { IfOk result (λ r. bytes_member at message.now outside ≡ Ok (Some (content r.0.now), r.1)) }
+    ensures value { IfOk result (λ r. bytes_member at message.now outside ≡ Ok (Some (a_vector r.0.now), r.1)) }
     ensures fault { IfErr result (λ e. bytes_member at message.now outside ≡ Err e) }
     ensures placed { IfOk result (λ r. IsPlaced (length message.now) r.1) }
     ensures left { IfOk result (λ r. r.1.left ≤ outside.left) }

@@ -191,9 +191,9 @@ number_answer at m o Envelope (inr other) = rw (enters 8 at m o other.entered, c
 number_answer at m o w f = rw (entry_answer 8 at m o w f) refl
 
 unknown_answer : (at : ℕ) (m : List ℕ) (o : Outside) (w : WireWhat) → UnknownFault at o.out o.left m w → skipped at m o ≡ Err (fault at w)
-unnumber_answer at m o Handles (inl f) = rw (true_eq (flags_at at m) 1 f.inlined, few_answer at m o f.few) refl
-unnumber_answer at m o Handles (inr f) = rw (false_eq (flags_at at m) 1 f.0, entry_answer 0 at m o Handles f.1) refl
-unnumber_answer at m o w f = rw (false_eq (flags_at at m) 1 f.0, entry_answer 0 at m o w f.1) refl
+unknown_answer at m o Handles (inl f) = rw (true_eq (flags_at at m) 1 f.inlined, few_answer at m o f.few) refl
+unknown_answer at m o Handles (inr f) = rw (false_eq (flags_at at m) 1 f.0, entry_answer 0 at m o Handles f.1) refl
+unknown_answer at m o w f = rw (false_eq (flags_at at m) 1 f.0, entry_answer 0 at m o w f.1) refl
 
 counts_differ : (a b x y : ℕ) → x + 16 ≤ y → (a ≡ 16 + (y - (x + 16)) → b ≡ 0 → ⊥) → ((x + a == y) && (b == 0)) ≡ false
 counts_differ a b x y within none =

@@ -3,7 +3,7 @@ use Rattle.std.proofs.Common.{◌≡◌, ℕ, zero, suc, ◌+◌, ◌%◌, ◌�
 use Rattle.std.proofs.lemmas.List.{length-replicate}
 use Rattle.fidl_wire.specs.declared.kinds.MemberKind.{MemberKind}
 use Rattle.fidl_wire.specs.Numbers.{padding_after}
-use Rattle.fidl_wire.specs.Layout.{Cell, Item, Member, value, content, number, pad, handle, text, vector, table, num, blank, held, seq, members, size_of, sizes_of, next_kind, later}
+use Rattle.fidl_wire.specs.Layout.{Cell, Item, Member, a_number, a_vector, number, pad, handle, text, vector, table, num, blank, held, seq, members, size_of, sizes_of, next_kind, later}
 use Rattle.fidl_wire.specs.Cursor.{Cursor}
 use Rattle.fidl_wire.specs.Reading.{◌>>=◌, cell_at, cells_at}
 use Rattle.fidl_wire.specs.Grammar.{Part, nothing, join, IsBytesMember, IsMember, AreMembers, Spells, Lays}
@@ -54,8 +54,8 @@ aligned-bytes xs p b =
 aligned-member : (k : MemberKind) (v : Option Member) (p : Part) → IsMember k v p → length p.outside % 8 ≡ 0
 aligned-member k None p (inl absent) = rw absent.rest.outside_is refl
 aligned-member k None p (inr unknown) = elim unknown.1 [ inl short ↦ rw short.outside_is refl | inr long ↦ long.aligned ]
-aligned-member k (Some (value x)) p n = rw n.2.value.size_is refl
-aligned-member k (Some (content xs)) p n = aligned-bytes xs p n.2
+aligned-member k (Some (a_number x)) p n = rw n.2.value.size_is refl
+aligned-member k (Some (a_vector xs)) p n = aligned-bytes xs p n.2
 
 aligned-members : (kinds : List MemberKind) (vs : List (Option Member)) (n : ℕ) (p : Part) → AreMembers kinds vs n p → (length p.inline + length p.outside) % 8 ≡ 0
 aligned-members kinds vs zero p h = rw h.1 refl

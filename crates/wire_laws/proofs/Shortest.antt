@@ -1,12 +1,12 @@
 -- No bytes that spell a value are fewer than its spelling, whose envelopes of absent members are zero.
-use Rattle.std.proofs.Common.{◌≡◌, ℕ, zero, suc, ◌+◌, ◌*◌, ◌<◌, ◌≤◌, inl, inr, Bool, List, [], ◌∷◌, ◌++◌, length, replicate, take, drop, get_or, Option, Some, None, refl, sym, ap, ◌∙◌, length-append, length-drop, arith}
+use Rattle.std.proofs.Common.{◌≡◌, ℕ, zero, suc, ◌+◌, ◌*◌, ◌<◌, ◌≤◌, inl, inr, List, [], ◌∷◌, ◌++◌, length, replicate, take, drop, get_or, Option, Some, None, refl, sym, ap, ◌∙◌, length-append, length-drop, arith}
 use Rattle.std.proofs.lemmas.List.{drop-drop, drop-append-le, take-append-le, length-replicate}
 use Rattle.std.specs.Prelude.{slice_range}
 use Rattle.fidl_names.specs.declared.methods.Handle.{Handle}
 use Rattle.fidl_names.specs.Numbers.{number_bytes}
 use Rattle.fidl_wire.specs.declared.kinds.MemberKind.{MemberKind}
 use Rattle.fidl_wire.specs.Numbers.{padded}
-use Rattle.fidl_wire.specs.Layout.{Cell, Item, Member, value, content, Variant, Layout, Content, number, pad, handle, text, vector, table, num, blank, held, seq, members, empty, word, object, struct, union, fields, branch, size_of, sizes_of, variant_of}
+use Rattle.fidl_wire.specs.Layout.{Cell, Item, Member, a_number, a_vector, Variant, Layout, Content, number, pad, handle, text, vector, table, num, blank, held, seq, members, empty, word, object, struct, union, fields, branch, size_of, sizes_of, variant_of}
 use Rattle.fidl_wire.specs.Reading.{present_word, present_list}
 use Rattle.fidl_wire.specs.Grammar.{Part, IsMember, AreMembers, Spells, Lays, IsObject, IsVariant, SpellsBody, IsSpelled}
 use Rattle.fidl_wire.specs.Spelling.{count_bytes, envelope_bytes, member_part, members_part, kept, given, table_part, spelling_of, spelling_of_all, object_bytes, variant_bytes, option_bytes, body_bytes}
@@ -21,8 +21,8 @@ use Rattle.wire_laws.proofs.Spelled.{length-number_bytes, length-envelope_bytes,
 -- what a member takes: its envelope, and what it has
 abbrev slot_of : Option Member → ℕ
 slot_of None = 8
-slot_of (Some (value x)) = 16
-slot_of (Some (content xs)) = 24 + padded (length xs)
+slot_of (Some (a_number x)) = 16
+slot_of (Some (a_vector xs)) = 24 + padded (length xs)
 
 abbrev slots_of : List (Option Member) → ℕ
 slots_of [] = 0
@@ -30,13 +30,13 @@ slots_of (v ∷ vs) = slot_of v + slots_of vs
 
 length-slot : (v : Option Member) → length (member_part v).inline ≡ 8
 length-slot None = length-number_bytes 8 0
-length-slot (Some (value x)) = length-envelope_bytes 8 0 0
-length-slot (Some (content xs)) = length-envelope_bytes (16 + padded (length xs)) 0 0
+length-slot (Some (a_number x)) = length-envelope_bytes 8 0 0
+length-slot (Some (a_vector xs)) = length-envelope_bytes (16 + padded (length xs)) 0 0
 
 length-held : (v : Option Member) → 8 + length (member_part v).outside ≡ slot_of v
 length-held None = refl
-length-held (Some (value x)) = ap (λ (n : ℕ). 8 + n) (length-number_bytes 8 x)
-length-held (Some (content xs)) = ap (λ (n : ℕ). 8 + n) (length-list_part xs)
+length-held (Some (a_number x)) = ap (λ (n : ℕ). 8 + n) (length-number_bytes 8 x)
+length-held (Some (a_vector xs)) = omega (arith, length-list_part xs)
 
 length-slots : (vs : List (Option Member)) → length (members_part vs).inline + length (members_part vs).outside ≡ slots_of vs
 length-slots [] = refl
@@ -51,8 +51,8 @@ length-inlines (v ∷ vs) = omega (arith, length-append (member_part v).inline (
 member_least : (k : MemberKind) (v : Option Member) (p : Part) → IsMember k v p → slot_of v ≤ length p.inline + length p.outside
 member_least k None p (inl absent) = omega (arith, absent.envelope.size_is)
 member_least k None p (inr unknown) = elim unknown.1 [ inl short ↦ omega (arith, short.envelope.size_is) | inr long ↦ omega (arith, long.envelope.size_is) ]
-member_least k (Some (value x)) p n = omega (arith, n.2.envelope.size_is, n.2.value.size_is)
-member_least k (Some (content xs)) p n =
+member_least k (Some (a_number x)) p n = omega (arith, n.2.envelope.size_is, n.2.value.size_is)
+member_least k (Some (a_vector xs)) p n =
     let b = n.2 in
     omega (arith, b.envelope.size_is, ap length b.outside_is, length-append b.vector.inline b.vector.outside, b.is_list.count.size_is, ap length b.is_list.outside_is, length-padded_bytes xs)
 

@@ -1,14 +1,18 @@
 -- What the spelling functions give is spelled by the grammar.
-use Rattle.std.proofs.Common.{◌≡◌, ℕ, suc, ◌^◌, ◌<◌, ◌≤◌, inl, subst, Bool, List, [], ◌∷◌, ◌++◌, length, replicate, take, drop, Option, Some, None, refl, sym, ap, ◌∙◌, length-append, append_assoc, lit<, arith}
+use Rattle.std.proofs.Common.{◌≡◌, ℕ, suc, ◌+◌, ◌^◌, ◌<◌, ◌≤◌, inl, subst, Bool, List, [], ◌∷◌, ◌++◌, length, replicate, take, drop, Option, Some, None, refl, sym, ap, ◌∙◌, length-append, append_assoc, lit<, arith}
 use Rattle.std.proofs.lemmas.List.{append-nil}
 use Rattle.std.proofs.Math.Seq.{drop-append_seam, take-append_seam}
 use Rattle.byteorder.specs.Numbers.{length-bytes_low_first, little_number-reads_back}
 use Rattle.fidl_names.specs.declared.methods.Handle.{Handle}
 use Rattle.fidl_names.specs.Numbers.{number_at, number_bytes}
-use Rattle.fidl_wire.specs.Layout.{Cell, Item, Variant, Layout, Content, number, pad, handle, text, vector, table, num, blank, held, seq, members, empty, word, object, struct, union, fields, branch, is_kind, variant_of}
+use Rattle.fidl_wire.specs.declared.kinds.MemberKind.{MemberKind}
+use Rattle.fidl_wire.specs.Numbers.{padded}
+use Rattle.fidl_wire.specs.Written.{padded_bytes}
+use Rattle.fidl_wire.proofs.Padded.{length-padded_bytes}
+use Rattle.fidl_wire.specs.Layout.{Cell, Item, Member, a_number, a_vector, Variant, Layout, Content, number, pad, handle, text, vector, table, num, blank, held, seq, members, empty, word, object, struct, union, fields, branch, is_kind, variant_of}
 use Rattle.fidl_wire.specs.Reading.{present_word, present_list}
-use Rattle.fidl_wire.specs.Grammar.{Part, IsNumber, IsCount, IsList, IsHandle, IsEnvelope, IsNumberMember, IsMember, AreMembers, Spells, Lays, IsObject, IsInlinedUnion, IsObjectUnion, IsVariant, SpellsBody, IsSpelled}
-use Rattle.fidl_wire.specs.Spelling.{count_bytes, envelope_bytes, member_part, members_part, kept, given, handle_part, list_part_of, spelling_of, spelling_of_all, FitMembers, FitsHandle, Fits, AllFit, object_bytes, variant_bytes, variant_handles, FitsVariant, option_bytes, option_handles, FitsOption, body_bytes, body_handles, FitsBody}
+use Rattle.fidl_wire.specs.Grammar.{Part, IsNumber, IsCount, IsList, IsHandle, IsEnvelope, IsNumberMember, IsBytesMember, IsMember, AreMembers, Spells, Lays, IsObject, IsInlinedUnion, IsObjectUnion, IsVariant, SpellsBody, IsSpelled}
+use Rattle.fidl_wire.specs.Spelling.{count_bytes, envelope_bytes, member_part, members_part, kept, given, handle_part, list_part_of, spelling_of, spelling_of_all, FitsMember, FitMembers, FitsHandle, Fits, AllFit, object_bytes, variant_bytes, variant_handles, FitsVariant, option_bytes, option_handles, FitsOption, body_bytes, body_handles, FitsBody}
 
 -- ---- numbers
 
@@ -71,7 +75,7 @@ length-fit (k ∷ ks) [] h = absurd h
 absent_member : (k : MemberKind) → IsMember k None (member_part None)
 absent_member k = inl (record { envelope = number_alone 8 0 (lit< tt); rest = record { outside_is = refl; handles_are = refl } })
 
-number_member : (x : ℕ) → x < 256 ^ 8 → IsNumberMember x (member_part (Some (value x)))
+number_member : (x : ℕ) → x < 256 ^ 8 → IsNumberMember x (member_part (Some (a_number x)))
 number_member x h = record { envelope = envelope_spelled 8 0 0 (lit< tt) (lit< tt) (lit< tt); value = number_alone 8 x h; handles_are = refl }
 
 -- the bytes of an envelope's count are those of a list and its padding
@@ -82,18 +86,18 @@ length-list_part xs =
 small_list : (n : ℕ) → 16 + padded n < 256 ^ 4 → n < 256 ^ 8
 small_list n h = omega arith
 
-bytes_member : (xs : List ℕ) → 16 + padded (length xs) < 256 ^ 4 → IsBytesMember xs (member_part (Some (content xs)))
+bytes_member : (xs : List ℕ) → 16 + padded (length xs) < 256 ^ 4 → IsBytesMember xs (member_part (Some (a_vector xs)))
 bytes_member xs h = record {
   vector = list_part_of xs;
   is_list = record { count = count_spelled (length xs) (small_list (length xs) h); outside_is = refl; handles_are = refl };
-  envelope = subst (λ (n : ℕ). IsEnvelope n 0 0 (member_part (Some (content xs))).inline) (sym (length-list_part xs)) (envelope_spelled (16 + padded (length xs)) 0 0 h (lit< tt) (lit< tt));
+  envelope = subst (λ (n : ℕ). IsEnvelope n 0 0 (member_part (Some (a_vector xs))).inline) (sym (length-list_part xs)) (envelope_spelled (16 + padded (length xs)) 0 0 h (lit< tt) (lit< tt));
   outside_is = refl;
   handles_are = refl;
 }
 
 given_member : (k : MemberKind) (v : Member) → FitsMember k v → IsMember k (Some v) (member_part (Some v))
-given_member k (value x) (required, same, small) = (required, same, number_member x small)
-given_member k (content xs) (required, same, small) = (required, same, bytes_member xs small)
+given_member k (a_number x) (required, same, small) = (required, same, number_member x small)
+given_member k (a_vector xs) (required, same, small) = (required, same, bytes_member xs small)
 
 members_spelled : (kinds : List MemberKind) (vs : List (Option Member)) → FitMembers kinds vs → AreMembers kinds vs (length (given vs)) (members_part (given vs))
 members_spelled [] [] h = (refl, refl)

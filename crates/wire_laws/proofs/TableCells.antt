@@ -11,7 +11,7 @@ use Rattle.fidl_wire.specs.Cursor.{Cursor}
 use Rattle.fidl_wire.specs.declared.faults.WireFault.{WireFault}
 use Rattle.fidl_wire.specs.declared.kinds.MemberKind.{MemberKind}
 use Rattle.fidl_wire.specs.declared.kinds.MemberKind.TheVariants as kind
-use Rattle.fidl_wire.specs.Layout.{Member, value, content}
+use Rattle.fidl_wire.specs.Layout.{Member, a_number, a_vector}
 use Rattle.fidl_wire.proofs.Padded.{length-padded_bytes}
 use Rattle.fidl_wire.specs.Reading.{◌>>=◌, check, bytes_at, handles_at, flags_at, is_absent, is_inlined, is_outside, enough_handles, entered, skipped, before_list, list_cell, present_member, member_at}
 use Rattle.fidl_wire.specs.Grammar.{Part, IsAbsent, IsEnvelope, IsSkippedShort, IsSkippedLong, IsNumberMember, IsList, IsBytesMember, IsMember}
@@ -158,7 +158,7 @@ long_read p m at hs o left within long s =
     rw (there, other, entered_ok at 0 m o enters, f.bytes_are, f.handles_are) refl
 
 number_member_read : (required : Bool) (x : ℕ) (p : Part) (m : List ℕ) (at : ℕ) (hs : List Handle) (o : Outside) → length hs ≡ o.left → o.out ≤ length m → IsNumberMember x p → Stands m at o.out hs p →
-    member_at (kind.Number required) at m o ≡ Ok (Some (value x), behind_part o p)
+    member_at (kind.Number required) at m o ≡ Ok (Some (a_number x), behind_part o p)
 unfolding member_at
 number_member_read required x p m at hs o left within n s =
     let f = fields_stand 8 0 0 at m p.inline s.inline n.envelope in
@@ -200,7 +200,7 @@ list_taken xs v m out room l stands = list_read false xs (before_list m out) v r
     least_refl n = omega arith
 
 bytes_member_read : (required : Bool) (xs : List ℕ) (p : Part) (m : List ℕ) (at : ℕ) (hs : List Handle) (o : Outside) → length hs ≡ o.left → o.out ≤ length m → IsBytesMember xs p →
-    Stands m at o.out hs p → member_at (kind.Bytes required) at m o ≡ Ok (Some (content xs), behind_part o p)
+    Stands m at o.out hs p → member_at (kind.Bytes required) at m o ≡ Ok (Some (a_vector xs), behind_part o p)
 unfolding member_at
 bytes_member_read required xs p m at hs o left within b s =
     let f = fields_stand (length p.outside) 0 0 at m p.inline s.inline b.envelope in
@@ -230,8 +230,8 @@ pub member_read : (k : MemberKind) (v : Option Member) (p : Part) (m : List ℕ)
 member_read k None p m at hs o left within (inl absent) s = absent_read k p m at hs o absent s
 member_read k None p m at hs o left within (inr unknown) s =
     rw unknown.0 (elim unknown.1 [ inl short ↦ short_read p m at hs o left short s | inr long ↦ long_read p m at hs o left within long s ])
-member_read k (Some (value x)) p m at hs o left within (required, same, n) s = rw same (number_member_read required x p m at hs o left within n s)
-member_read k (Some (content xs)) p m at hs o left within (required, same, b) s = rw same (bytes_member_read required xs p m at hs o left within b s)
+member_read k (Some (a_number x)) p m at hs o left within (required, same, n) s = rw same (number_member_read required x p m at hs o left within n s)
+member_read k (Some (a_vector xs)) p m at hs o left within (required, same, b) s = rw same (bytes_member_read required xs p m at hs o left within b s)
 
 -- ---- a member that is read is spelled
 
@@ -306,7 +306,7 @@ number_member_sound : (required : Bool) (m : List ℕ) (at : ℕ) (hs : List Han
 number_member_sound required m at hs o fits enters bytes_are handles_are =
     let size : length (take 8 (drop o.out m)) ≡ 8 = omega (arith, length-take 8 (drop o.out m), length-drop o.out m, enters.bytes_fit) in
     let e = envelope_at at m fits in (
-      Some (value (number_at 8 o.out m)),
+      Some (a_number (number_at 8 o.out m)),
       record { inline = take 8 (drop at m); outside = take 8 (drop o.out m); handles = [] },
       record {
         member = (
@@ -337,7 +337,7 @@ bytes_member_sound required m at hs o r fits enters read counts handles_are =
     let size : bytes_at at m ≡ length (v.inline ++ v.outside) = omega (arith, counts, out, length-append v.inline v.outside, s.list.count.size_is) in
     let e = envelope_at at m fits in
     let behind : Begins (drop (length v.inline) (drop o.out m)) v.outside = rw (drop-drop (length v.inline) o.out m, s.list.count.size_is) s.stands.outside in (
-      Some (content s.xs),
+      Some (a_vector s.xs),
       record { inline = take 8 (drop at m); outside = v.inline ++ v.outside; handles = [] },
       record {
         member = (
@@ -366,14 +366,14 @@ skipped_says at m o r =
 present_sound : (k : MemberKind) (m : List ℕ) (at : ℕ) (hs : List Handle) (o : Outside) (r : Option Member × Outside) → at + 8 ≤ length m → length hs ≡ o.left →
     present_member k at m o ≡ Ok r → SoundMember k m at hs o
 present_sound (kind.Number required) m at hs o r fits left h =
-    let last : Option Member × Outside = (Some (value (number_at 8 o.out m)), record o { out = o.out + 8 }) in
+    let last : Option Member × Outside = (Some (a_number (number_at 8 o.out m)), record o { out = o.out + 8 }) in
     let enters = unit_bind (entered at 8 m o) (λ _. check ((bytes_at at m == 8) && (handles_at at m == 0)) (fault at Envelope) >>= λ _. Ok last) r h in
     let counts = check_bind ((bytes_at at m == 8) && (handles_at at m == 0)) (fault at Envelope) (λ _. Ok last) r enters.1 in
     let both = both_true (bytes_at at m == 8) (handles_at at m == 0) counts.0 in
     number_member_sound required m at hs o fits (entered_says at 8 m o enters.0) (eq_true (bytes_at at m) 8 both.0) (eq_true (handles_at at m) 0 both.1)
 present_sound (kind.Bytes required) m at hs o r fits left h =
     let counted : List ℕ × Cursor → Bool = λ list. (o.out + bytes_at at m == list.1.out) && (handles_at at m == 0) in
-    let last : List ℕ × Cursor → Option Member × Outside = λ list. (Some (content list.0), record o { out = list.1.out }) in
+    let last : List ℕ × Cursor → Option Member × Outside = λ list. (Some (a_vector list.0), record o { out = list.1.out }) in
     let enters = unit_bind (entered at 16 m o) (λ _. list_cell false (before_list m o.out) >>= λ list. check (counted list) (fault at Envelope) >>= λ _. Ok (last list)) r h in
     let read = bind_ok (list_cell false (before_list m o.out)) (λ list. check (counted list) (fault at Envelope) >>= λ _. Ok (last list)) r enters.1 in
     let counts = check_bind (counted read.0) (fault at Envelope) (λ _. Ok (last read.0)) r read.2 in

@@ -13,7 +13,7 @@ use Rattle.fidl_wire.specs.declared.kinds.MemberKind.{MemberKind}
 use Rattle.fidl_wire.specs.declared.kinds.MemberKind.TheVariants as kind
 use Rattle.fidl_wire.specs.Headers.{fault}
 use Rattle.fidl_wire.specs.Numbers.{padding_after, padded}
-use Rattle.fidl_wire.specs.Layout.{Member, value, content, table, members, next_kind, later, with_member, has_required}
+use Rattle.fidl_wire.specs.Layout.{Member, a_number, a_vector, table, members, next_kind, later, with_member, has_required}
 use Rattle.fidl_wire.specs.Cursor.{Cursor}
 use Rattle.fidl_wire.specs.Reading.{◌>>=◌, passed, check, bytes_at, handles_at, flags_at, is_absent, is_inlined, is_outside, enough_handles, entered, skipped, before_list, list_cell, number_member, bytes_member, present_member, member_at, members_at, count_at, table_at, table_cell, cell_at}
 use Rattle.fidl_wire.specs.Grammar.{nothing, join}
@@ -81,7 +81,7 @@ no_number a b h x y = let yes : ((a == 8) && (b == 0)) ≡ true = rw (true_eq a 
 
 number_err : (at : ℕ) (m : List ℕ) (o : Outside) (e : WireFault) → number_member at m o ≡ Err e → (e.at ≡ at) × NumberFault at o.out o.left m e.what
 number_err at m o e h =
-    let last : Option Member × Outside = (Some (value (number_at 8 o.out m)), record o { out = o.out + 8 }) in
+    let last : Option Member × Outside = (Some (a_number (number_at 8 o.out m)), record o { out = o.out + 8 }) in
     elim (unit_bind_err (entered at 8 m o) (λ _. check ((bytes_at at m == 8) && (handles_at at m == 0)) (fault at Envelope) >>= λ _. Ok last) e h) [
       | inl bad ↦ let b = entered_err at 8 m o e bad in (b.0, number_fault at o.out o.left m e.what b.1)
       | inr good ↦
@@ -104,7 +104,7 @@ no_counts a b x y h same within none = let yes : ((x + a == y) && (b == 0)) ≡ 
 bytes_err : (at : ℕ) (m : List ℕ) (o : Outside) (e : WireFault) → o.out ≤ length m → bytes_member at m o ≡ Err e → BytesFault at o.out o.left m e.at e.what
 bytes_err at m o e within h =
     let counted : List ℕ × Cursor → Bool = λ list. (o.out + bytes_at at m == list.1.out) && (handles_at at m == 0) in
-    let last : List ℕ × Cursor → Option Member × Outside = λ list. (Some (content list.0), record o { out = list.1.out }) in
+    let last : List ℕ × Cursor → Option Member × Outside = λ list. (Some (a_vector list.0), record o { out = list.1.out }) in
     elim (unit_bind_err (entered at 16 m o) (λ _. list_cell false (before_list m o.out) >>= λ list. check (counted list) (fault at Envelope) >>= λ _. Ok (last list)) e h) [
       | inl bad ↦ inl (entered_err at 16 m o e bad)
       | inr good ↦

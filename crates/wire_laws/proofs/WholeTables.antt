@@ -7,7 +7,7 @@ use Rattle.fidl_wire.specs.declared.reading.Outside.{Outside}
 use Rattle.fidl_wire.specs.declared.faults.WireWhat.TheVariants.{Count, Envelope}
 use Rattle.fidl_wire.specs.declared.kinds.MemberKind.{MemberKind}
 use Rattle.fidl_wire.specs.Headers.{fault}
-use Rattle.fidl_wire.specs.Layout.{Item, Member, value, content, table, members, next_kind, later, with_member, has_required}
+use Rattle.fidl_wire.specs.Layout.{Item, Member, a_number, a_vector, table, members, next_kind, later, with_member, has_required}
 use Rattle.fidl_wire.specs.Cursor.{Cursor}
 use Rattle.fidl_wire.specs.Reading.{◌>>=◌, check, passed, count_at, member_at, members_at, table_at, table_cell, cell_at}
 use Rattle.fidl_wire.specs.Grammar.{Part, nothing, join, IsMember, AreMembers}
@@ -22,8 +22,8 @@ use Rattle.wire_laws.proofs.TableCells.{behind_part, member_read, member_sound, 
 pub length-member : (k : MemberKind) (v : Option Member) (p : Part) → IsMember k v p → length p.inline ≡ 8
 length-member k None p (inl absent) = absent.envelope.size_is
 length-member k None p (inr unknown) = elim unknown.1 [ inl short ↦ short.envelope.size_is | inr long ↦ long.envelope.size_is ]
-length-member k (Some (value x)) p n = n.2.envelope.size_is
-length-member k (Some (content xs)) p n = n.2.envelope.size_is
+length-member k (Some (a_number x)) p n = n.2.envelope.size_is
+length-member k (Some (a_vector xs)) p n = n.2.envelope.size_is
 
 -- and so many members have so many
 pub length-members : (kinds : List MemberKind) (vs : List (Option Member)) (n : ℕ) (p : Part) → AreMembers kinds vs n p → length p.inline ≡ 8 * n
