@@ -1,11 +1,15 @@
 -- How many bytes the parts of fields have.
-use Rattle.std.proofs.Common.{◌≡◌, ℕ, ◌+◌, ◌*◌, ◌%◌, ◌<◌, ◌≤◌, List, [], ◌∷◌, ◌++◌, length, replicate, take, drop, get_or, Option, Some, None, is_some, true, false, MatchOption, SomeIff, ◌-◌, inl, inr, refl, sym, ap, ◌∙◌, append_assoc, length-append, length-take, drop-cons, add-one, arith}
+use Rattle.std.proofs.Common.{◌≡◌, ℕ, zero, suc, ◌+◌, ◌*◌, ◌%◌, ◌<◌, ◌≤◌, List, [], ◌∷◌, ◌++◌, length, replicate, take, drop, get_or, Option, Some, None, is_some, option_map, Bool, true, false, MatchOption, SomeIff, ◌-◌, inl, inr, refl, sym, ap, subst, ◌∙◌, append_assoc, length-append, drop-cons, add-one, arith}
 use Rattle.std.proofs.lemmas.List.{length-replicate, take_more}
 use Rattle.std.proofs.lemmas.Bool.{cases_lt}
 use denote.Bor.{Bor}
 use Rattle.byteorder.specs.Numbers.{length-bytes_low_first}
 use Rattle.fidl_names.specs.declared.methods.Handle.{Handle}
 use Rattle.fidl_names.specs.Numbers.{number_bytes}
+use Rattle.fidl_wire.specs.declared.kinds.Member.{Member as MemberNow}
+use Rattle.fidl_wire.specs.Layout.{Member, a_number, a_vector}
+use Rattle.fidl_wire.specs.Told.{told, all_told}
+use Rattle.fidl_wire.proofs.Sizes.{padded-mod}
 use Rattle.fidl_wire.specs.Numbers.{padding_after, padded}
 use Rattle.fidl_wire.specs.declared.headers.Header.{Header}
 use Rattle.fidl_wire.specs.Headers.{header_bytes, flags_of}
@@ -15,6 +19,7 @@ use Rattle.fidl_wire.specs.Spelling.{count_bytes, envelope_bytes, member_part, m
 use Rattle.fidl_wire.proofs.Padded.{padded_behind}
 use Rattle.io_messages.specs.declared.fields.Field.{Field}
 use Rattle.io_messages.specs.declared.fields.Field.TheVariants.{Word, Long, Blank, Held, Absent, Bytes, Table}
+use Rattle.io_messages.specs.Members.{numbers}
 use Rattle.io_messages.specs.Fields.{part_of, parts_of, part_size, parts_size, slot_of, slots_of}
 
 pub length-number : (size x : ℕ) → length (number_bytes size x) ≡ size
@@ -39,60 +44,71 @@ length-padded xs = omega (arith, length-append xs (replicate (padding_after (len
 
 -- ---- tables
 
-pub length-slot : (v : Option ℕ) → length (member_part v).inline ≡ 8
+pub length-slot : (v : Option Member) → length (member_part v).inline ≡ 8
 length-slot None = length-number 8 0
-length-slot (Some x) = length-envelope 8 0 0
+length-slot (Some (a_number x)) = length-envelope 8 0 0
+length-slot (Some (a_vector xs)) = length-envelope (16 + padded (length xs)) 0 0
 
-pub length-held : (v : Option ℕ) → 8 + length (member_part v).outside ≡ slot_of v
+pub length-list : (xs : List ℕ) → length (count_bytes (length xs) ++ padded_bytes xs) ≡ 16 + padded (length xs)
+length-list xs = omega (arith, length-append (count_bytes (length xs)) (padded_bytes xs), length-count (length xs), length-padded xs)
+
+pub length-held : (v : Option Member) → 8 + length (member_part v).outside ≡ slot_of v
 length-held None = refl
-length-held (Some x) = omega (arith, length-number 8 x)
+length-held (Some (a_number x)) = omega (arith, length-number 8 x)
+length-held (Some (a_vector xs)) = omega (arith, length-list xs)
 
 -- the envelope of a number is a number itself
 pub envelope_is : number_bytes 8 8 ≡ envelope_bytes 8 0 0
 unfolding number_bytes
 envelope_is = refl
 
-pub length-slots : (vs : List (Option ℕ)) → length (members_part vs).inline + length (members_part vs).outside ≡ slots_of vs
+pub length-slots : (vs : List (Option Member)) → length (members_part vs).inline + length (members_part vs).outside ≡ slots_of vs
 length-slots [] = refl
 length-slots (v ∷ vs) =
     omega (arith, length-append (member_part v).inline (members_part vs).inline, length-append (member_part v).outside (members_part vs).outside, length-slot v, length-held v, length-slots vs)
 
-pub slots-most : (vs : List (Option ℕ)) → slots_of vs ≤ 16 * length vs
-slots-most [] = omega arith
-slots-most (None ∷ vs) = omega (arith, slots-most vs)
-slots-most (Some x ∷ vs) = omega (arith, slots-most vs)
+-- members that are numbers have at most sixteen bytes each
+number-most : (v : Option ℕ) → slot_of (option_map a_number v) ≤ 16
+number-most None = omega arith
+number-most (Some x) = omega arith
 
-pub slots-least : (vs : List (Option ℕ)) → length vs ≤ slots_of vs
-slots-least [] = omega arith
-slots-least (None ∷ vs) = omega (arith, slots-least vs)
-slots-least (Some x ∷ vs) = omega (arith, slots-least vs)
+kept-most : (v : Option Member) (g : List (Option Member)) → slots_of (kept v g) ≤ slot_of v + slots_of g
+kept-most None [] = omega arith
+kept-most None (w ∷ g) = omega arith
+kept-most (Some x) g = omega arith
 
-pub slots-aligned : (vs : List (Option ℕ)) → slots_of vs % 8 ≡ 0
+pub numbers-most : (vs : List (Option ℕ)) → slots_of (given (numbers vs)) ≤ 16 * length vs
+numbers-most [] = omega arith
+numbers-most (v ∷ vs) = omega (arith, kept-most (option_map a_number v) (given (numbers vs)), number-most v, numbers-most vs)
+
+pub slots-aligned : (vs : List (Option Member)) → slots_of vs % 8 ≡ 0
 slots-aligned [] = refl
 slots-aligned (None ∷ vs) = omega (arith, slots-aligned vs)
-slots-aligned (Some x ∷ vs) = omega (arith, slots-aligned vs)
+slots-aligned (Some (a_number x) ∷ vs) = omega (arith, slots-aligned vs)
+slots-aligned (Some (a_vector xs) ∷ vs) = omega (arith, slots-aligned vs, padded-mod (length xs))
 
-pub length-table : (vs : List (Option ℕ)) → length (table_part vs).outside ≡ slots_of (given vs)
+pub length-table : (vs : List (Option Member)) → length (table_part vs).outside ≡ slots_of (given vs)
 length-table vs =
     omega (arith, length-append (members_part (given vs)).inline (members_part (given vs)).outside, length-slots (given vs))
 
-pub no_handles : (vs : List (Option ℕ)) → (members_part vs).handles ≡ []
+pub no_handles : (vs : List (Option Member)) → (members_part vs).handles ≡ []
 no_handles [] = refl
 no_handles (None ∷ vs) = no_handles vs
-no_handles (Some x ∷ vs) = no_handles vs
+no_handles (Some (a_number x) ∷ vs) = no_handles vs
+no_handles (Some (a_vector xs) ∷ vs) = no_handles vs
 
 -- ---- the members up to the last that is given
 
-kept-cons : (v x : Option ℕ) (ys : List (Option ℕ)) → kept v (ys ++ x ∷ []) ≡ v ∷ (ys ++ x ∷ [])
+kept-cons : (v x : Option Member) (ys : List (Option Member)) → kept v (ys ++ x ∷ []) ≡ v ∷ (ys ++ x ∷ [])
 kept-cons None x [] = refl
 kept-cons None x (y ∷ ys) = refl
 kept-cons (Some n) x ys = refl
 
-pub given-some : (xs : List (Option ℕ)) (n : ℕ) → given (xs ++ Some n ∷ []) ≡ xs ++ Some n ∷ []
+pub given-some : (xs : List (Option Member)) (n : Member) → given (xs ++ Some n ∷ []) ≡ xs ++ Some n ∷ []
 given-some [] n = refl
 given-some (v ∷ vs) n = ap (kept v) (given-some vs n) ∙ kept-cons v (Some n) vs
 
-pub given-none : (xs : List (Option ℕ)) → given (xs ++ None ∷ []) ≡ given xs
+pub given-none : (xs : List (Option Member)) → given (xs ++ None ∷ []) ≡ given xs
 given-none [] = refl
 given-none (v ∷ vs) = ap (kept v) (given-none vs)
 
@@ -132,7 +148,7 @@ absent_size = omega (arith, length-number 4 0)
 pub list_size : (xs : List ℕ) → length (count_bytes (length xs)) + length (padded_bytes xs) ≡ 16 + length xs + padding_after (length xs)
 list_size xs = omega (arith, length-count (length xs), length-padded xs)
 
-pub table_size : (vs : List (Option ℕ)) → length (table_part vs).inline + length (table_part vs).outside ≡ 16 + slots_of (given vs)
+pub table_size : (vs : List (Option Member)) → length (table_part vs).inline + length (table_part vs).outside ≡ 16 + slots_of (given vs)
 table_size vs = omega (arith, length-count (length (given vs)), length-table vs)
 
 -- what a checked subtraction leaves
@@ -142,26 +158,62 @@ left_of (Some left) room n size same h = omega (arith, h.0, h.1)
 
 -- ---- one member more
 
-is_given : (v : Option ℕ) → is_some v ≡ true → (x : ℕ) × (v ≡ Some x)
+is_given : (v : Option Member) → is_some v ≡ true → (x : Member) × (v ≡ Some x)
 is_given None h = absurd (cc)
 is_given (Some x) h = (x, refl)
 
-is_none : (v : Option ℕ) → is_some v ≡ false → v ≡ None
+is_none : (v : Option Member) → is_some v ≡ false → v ≡ None
 is_none None h = refl
 is_none (Some x) h = absurd (cc)
 
-pub given_at : (ms : List (Option ℕ)) (i : ℕ) → i < length ms → is_some (get_or ms i None) ≡ true → take (i + 1) ms ≡ given (take (i + 1) ms)
-given_at ms i below h =
+told-take : (i : ℕ) (ms : List (Option MemberNow)) → all_told (take i ms) ≡ take i (all_told ms)
+told-take zero ms = refl
+told-take (suc i) [] = refl
+told-take (suc i) (m ∷ ms) = ap (λ (vs : List (Option Member)). option_map told m ∷ vs) (told-take i ms)
+
+told-at : (ms : List (Option MemberNow)) (i : ℕ) → get_or (all_told ms) i None ≡ option_map told (get_or ms i None)
+told-at [] i = refl
+told-at (m ∷ ms) zero = refl
+told-at (m ∷ ms) (suc i) = told-at ms i
+
+pub told-length : (ms : List (Option MemberNow)) → length (all_told ms) ≡ length ms
+told-length [] = refl
+told-length (m ∷ ms) = ap suc (told-length ms)
+
+pub told-drop : (ms : List (Option MemberNow)) (i : ℕ) → all_told (drop i ms) ≡ drop i (all_told ms)
+told-drop ms zero = refl
+told-drop [] (suc i) = refl
+told-drop (m ∷ ms) (suc i) = told-drop ms i
+
+is_some-told : (v : Option MemberNow) (b : Bool) → is_some v ≡ b → is_some (option_map told v) ≡ b
+is_some-told None b h = h
+is_some-told (Some x) b h = h
+
+given_told : (ms : List (Option Member)) (i : ℕ) → i < length ms → is_some (get_or ms i None) ≡ true → take (i + 1) ms ≡ given (take (i + 1) ms)
+given_told ms i below h =
     let more = take_more ms i None below in
     let some = is_given (get_or ms i None) h in
-    let here : take (i + 1) ms ≡ take i ms ++ Some some.0 ∷ [] = more ∙ ap (λ (v : Option ℕ). take i ms ++ v ∷ []) some.1 in
+    let here : take (i + 1) ms ≡ take i ms ++ Some some.0 ∷ [] = more ∙ ap (λ (v : Option Member). take i ms ++ v ∷ []) some.1 in
     here ∙ sym (given-some (take i ms) some.0) ∙ sym (ap given here)
 
-pub given_before : (ms : List (Option ℕ)) (i count : ℕ) → i < length ms → is_some (get_or ms i None) ≡ false → take count ms ≡ given (take i ms) → take count ms ≡ given (take (i + 1) ms)
-given_before ms i count below h front =
+none_told : (ms front : List (Option Member)) (i : ℕ) → i < length ms → is_some (get_or ms i None) ≡ false → front ≡ given (take i ms) → front ≡ given (take (i + 1) ms)
+none_told ms front i below h is =
     let more = take_more ms i None below in
-    let here : take (i + 1) ms ≡ take i ms ++ None ∷ [] = more ∙ ap (λ (v : Option ℕ). take i ms ++ v ∷ []) (is_none (get_or ms i None) h) in
-    front ∙ sym (given-none (take i ms)) ∙ sym (ap given here)
+    let here : take (i + 1) ms ≡ take i ms ++ None ∷ [] = more ∙ ap (λ (v : Option Member). take i ms ++ v ∷ []) (is_none (get_or ms i None) h) in
+    is ∙ sym (given-none (take i ms)) ∙ sym (ap given here)
+
+pub given_at : (ms : List (Option MemberNow)) (i : ℕ) → i < length ms → is_some (get_or ms i None) ≡ true → all_told (take (i + 1) ms) ≡ given (all_told (take (i + 1) ms))
+given_at ms i below h =
+    let all = all_told ms in
+    let there : is_some (get_or all i None) ≡ true = ap is_some (told-at ms i) ∙ is_some-told (get_or ms i None) true h in
+    told-take (i + 1) ms ∙ given_told all i (omega (arith, told-length ms)) there ∙ ap given (sym (told-take (i + 1) ms))
+
+pub given_before : (ms : List (Option MemberNow)) (i count : ℕ) → i < length ms → is_some (get_or ms i None) ≡ false → all_told (take count ms) ≡ given (all_told (take i ms)) →
+    all_told (take count ms) ≡ given (all_told (take (i + 1) ms))
+given_before ms i count below h front =
+    let all = all_told ms in
+    let there : is_some (get_or all i None) ≡ false = ap is_some (told-at ms i) ∙ is_some-told (get_or ms i None) false h in
+    none_told all (all_told (take count ms)) i (omega (arith, told-length ms)) there (front ∙ ap given (told-take i ms)) ∙ ap given (sym (told-take (i + 1) ms))
 
 -- a field that isn't a handle has none
 pub not_held : (f : Field) → ((h : Handle) → f ≡ Held h → ⊥) → (part_of f).handles ≡ []
@@ -171,7 +223,7 @@ not_held Blank no_handle = refl
 not_held (Held h) no_handle = absurd (no_handle h refl)
 not_held Absent no_handle = refl
 not_held (Bytes xs) no_handle = refl
-not_held (Table vs) no_handle = no_handles (given vs.now)
+not_held (Table vs) no_handle = no_handles (given (all_told vs.now))
 
 -- ---- an object
 
@@ -190,13 +242,8 @@ pub object_is : (a inline outside w x y z : List ℕ) → length a % 8 ≡ 0 →
 object_is a inline outside w x y z aligned hw hx hy hz =
     hz ∙ hy ∙ ap (λ (v : List ℕ). v ++ outside) (hx ∙ ap padded_bytes hw ∙ padded_behind a inline aligned) ∙ append_assoc a (padded_bytes inline) outside
 
--- a table that has more members than there is room
-pub many_slots : (f : Field) (vs : Bor (List (Option ℕ))) (room count : ℕ) → f ≡ Table vs → take count vs.now ≡ given vs.now → count ≤ length vs.now → room < count → room < part_size f
-many_slots f vs room count is front within more =
-    omega (arith, ap part_size is, table_size vs.now, slots-least (given vs.now), ap length front, length-take count vs.now)
-
-pub table_slots : (f : Field) (vs : Bor (List (Option ℕ))) (n : ℕ) (slots : List (Option ℕ)) → f ≡ Table vs → slots ≡ given vs.now → n ≡ slots_of slots → 16 + n ≡ part_size f
-table_slots f vs n slots is front size = omega (arith, ap part_size is, table_size vs.now, ap slots_of front)
+pub table_slots : (f : Field) (vs : Bor (List (Option MemberNow))) → f ≡ Table vs → 16 + slots_of (given (all_told vs.now)) ≡ part_size f
+table_slots f vs is = omega (arith, ap part_size is, table_size (all_told vs.now))
 
 pub list_bytes : (f : Field) (xs : Bor (List ℕ)) (padding : ℕ) → f ≡ Bytes xs → padding ≡ padding_after (length xs.now) → 16 + length xs.now + padding ≡ part_size f
 list_bytes f xs padding is size = omega (arith, ap part_size is, list_size xs.now, size)
@@ -214,7 +261,7 @@ aligned_out Blank = refl
 aligned_out (Held h) = refl
 aligned_out Absent = refl
 aligned_out (Bytes xs) = aligned_list xs.now
-aligned_out (Table vs) = omega (arith, length-table vs.now, slots-aligned (given vs.now))
+aligned_out (Table vs) = omega (arith, length-table (all_told vs.now), slots-aligned (given (all_told vs.now)))
 
 pub aligned_outside : (fs : List Field) → length (parts_of fs).outside % 8 ≡ 0
 aligned_outside [] = refl
@@ -240,11 +287,52 @@ message_long fs h = omega (arith, length-object fs, padded-least (length (parts_
 pub behind_nothing : {A : Type 0} → (old xs ys new mid : List A) → old ≡ [] → mid ≡ old ++ xs → new ≡ mid ++ ys → new ≡ xs ++ ys
 behind_nothing {A} old xs ys new mid none h k = k ∙ ap (λ (v : List A). v ++ ys) (h ∙ ap (λ (v : List A). v ++ xs) none)
 
-length-kept : (v : Option ℕ) (vs : List (Option ℕ)) → length (kept v vs) ≤ 1 + length vs
+length-kept : (v : Option Member) (vs : List (Option Member)) → length (kept v vs) ≤ 1 + length vs
 length-kept None [] = omega arith
 length-kept None (w ∷ ws) = omega arith
 length-kept (Some x) vs = omega arith
 
-pub length-given : (vs : List (Option ℕ)) → length (given vs) ≤ length vs
+pub length-given : (vs : List (Option Member)) → length (given vs) ≤ length vs
 length-given [] = omega arith
 length-given (v ∷ vs) = omega (arith, length-kept v (given vs), length-given vs)
+
+-- ---- what members hold
+
+held-aligned : (v : Option Member) → length (member_part v).outside % 8 ≡ 0
+held-aligned None = refl
+held-aligned (Some (a_number x)) = omega (arith, length-number 8 x)
+held-aligned (Some (a_vector xs)) = omega (arith, length-list xs, padded-mod (length xs))
+
+pub members-aligned : (vs : List (Option Member)) → length (members_part vs).outside % 8 ≡ 0
+members-aligned [] = refl
+members-aligned (v ∷ vs) = omega (arith, length-append (member_part v).outside (members_part vs).outside, held-aligned v, members-aligned vs)
+
+held-within : (vs : List (Option Member)) (i : ℕ) → i < length vs → length (member_part (get_or vs i None)).outside ≤ length (members_part vs).outside
+held-within [] i below = absurd (omega arith)
+held-within (v ∷ vs) zero below = omega (arith, length-append (member_part v).outside (members_part vs).outside)
+held-within (v ∷ vs) (suc i) below = omega (arith, length-append (member_part v).outside (members_part vs).outside, held-within vs i (omega arith))
+
+pub told-within : (ms : List (Option MemberNow)) (i most : ℕ) → i < length ms → length (members_part (all_told ms)).outside ≤ most → length (member_part (option_map told (get_or ms i None))).outside ≤ most
+told-within ms i most below few =
+    omega (arith, ap (λ (v : Option Member). length (member_part v).outside) (told-at ms i), held-within (all_told ms) i (omega (arith, told-length ms)))
+
+pub two_zeros : number_bytes 2 0 ++ number_bytes 2 0 ≡ number_bytes 4 0
+unfolding number_bytes
+two_zeros = refl
+
+-- the envelope of a list of bytes is two numbers
+pub list_envelope : (n : ℕ) → number_bytes 4 n ++ number_bytes 4 0 ≡ envelope_bytes n 0 0
+list_envelope n = ap (λ (xs : List ℕ). number_bytes 4 n ++ xs) (sym two_zeros) ∙ sym (append_assoc (number_bytes 4 n) (number_bytes 2 0) (number_bytes 2 0))
+
+-- what an envelope counts of a list is within the message
+pub list_counted : (xs : List ℕ) (most : ℕ) → length (member_part (Some (a_vector xs))).outside ≤ most → 16 + padded (length xs) ≤ most
+list_counted xs most h = omega (arith, length-list xs)
+
+-- the same room, its size told in another way
+pub moved_room : (o : Option ℕ) (room n size : ℕ) → n ≡ size → MatchOption o (room < n) (λ left. left + n ≡ room) → MatchOption o (room < size) (λ left. left + size ≡ room)
+moved_room o room n size same h = subst (λ (k : ℕ). MatchOption o (room < k) (λ left. left + k ≡ room)) same h
+
+-- envelopes are a multiple of eight bytes
+pub members_eight : (vs : List (Option Member)) → length (members_part vs).inline % 8 ≡ 0
+members_eight [] = refl
+members_eight (v ∷ vs) = omega (arith, length-append (member_part v).inline (members_part vs).inline, length-slot v, members_eight vs)

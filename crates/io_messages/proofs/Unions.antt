@@ -8,8 +8,9 @@ use Rattle.fidl_wire.specs.Numbers.{padding_after, padded}
 use Rattle.fidl_wire.specs.Spelling.{envelope_bytes, object_bytes, inline_part, list_part_of, table_part, given, count_bytes}
 use Rattle.fidl_wire.specs.Written.{padded_bytes}
 use Rattle.io_messages.specs.declared.fields.Field.{Field}
+use Rattle.io_messages.specs.Members.{numbers}
 use Rattle.io_messages.specs.Fields.{list_object, parts_of, parts_size, slots_of}
-use Rattle.io_messages.proofs.Lengths.{length-count, length-table, length-given, slots-most, length-number, length-envelope, length-padded, length-object, padded_none}
+use Rattle.io_messages.proofs.Lengths.{length-count, length-table, numbers-most, length-number, length-envelope, length-padded, length-object, padded_none}
 
 -- one list behind another
 pub cat : (a b : List ℕ) (m n : ℕ) → length a ≡ m → length b ≡ n → length (a ++ b) ≡ m + n
@@ -116,9 +117,10 @@ listing_length word xs h =
     )
 
 -- the two tables of the attributes
-pub tables_most : (vs : List (Option ℕ)) → length vs ≤ 6 → length (object_bytes (join (table_part []) (join (table_part vs) nothing))) ≤ 128
+pub tables_most : (vs : List (Option ℕ)) → length vs ≤ 6 → length (object_bytes (join (table_part []) (join (table_part (numbers vs)) nothing))) ≤ 128
 tables_most vs h =
-    let p = join (table_part []) (join (table_part vs) nothing) in
-    let count = length (given vs) in
-    let outside : length p.outside ≡ slots_of (given vs) = cat (table_part vs).outside [] (slots_of (given vs)) 0 (length-table vs) refl ∙ add-zero (slots_of (given vs)) in
-    omega (arith, object_length p 32 (slots_of (given vs)) (cat (count_bytes 0) _ 16 16 (length-count 0) (cat (count_bytes count) [] 16 0 (length-count count) refl)) outside, padded_none 32 refl, slots-most (given vs), length-given vs)
+    let ms = numbers vs in
+    let p = join (table_part []) (join (table_part ms) nothing) in
+    let count = length (given ms) in
+    let outside : length p.outside ≡ slots_of (given ms) = cat (table_part ms).outside [] (slots_of (given ms)) 0 (length-table ms) refl ∙ add-zero (slots_of (given ms)) in
+    omega (arith, object_length p 32 (slots_of (given ms)) (cat (count_bytes 0) _ 16 16 (length-count 0) (cat (count_bytes count) [] 16 0 (length-count count) refl)) outside, padded_none 32 refl, numbers-most vs)

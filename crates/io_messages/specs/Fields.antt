@@ -2,6 +2,9 @@
 use Rattle.std.specs.Prelude.{ℕ, ◌+◌, List, [], ◌∷◌, length, replicate, Option, Some, None}
 use Rattle.fidl_wire.specs.Grammar.{Part, nothing, join}
 use Rattle.fidl_names.specs.Numbers.{number_bytes}
+use Rattle.fidl_wire.specs.Layout.{Member, a_number, a_vector}
+use Rattle.fidl_wire.specs.Numbers.{padded}
+use Rattle.fidl_wire.specs.Told.{all_told}
 use Rattle.fidl_wire.specs.Spelling.{inline_part, handle_part, list_part_of, object_bytes, table_part}
 use Rattle.io_messages.specs.declared.fields.Field.{Field}
 use Rattle.io_messages.specs.declared.fields.Field.TheVariants.{Word, Long, Blank, Held, Absent, Bytes, Table}
@@ -13,7 +16,7 @@ part_of Blank = inline_part (replicate 4 0)
 part_of (Held h) = handle_part (Some h)
 part_of Absent = handle_part None
 part_of (Bytes bytes) = list_part_of bytes.now
-part_of (Table members) = table_part members.now
+part_of (Table members) = table_part (all_told members.now)
 
 -- one behind another
 abbrev pub parts_of : List Field → Part
@@ -28,14 +31,19 @@ abbrev pub parts_size : List Field → ℕ
 parts_size fs = length (parts_of fs).inline + length (parts_of fs).outside
 
 -- the bytes of members' envelopes, and of what they hold
-abbrev pub slot_of : Option ℕ → ℕ
+abbrev pub slot_of : Option Member → ℕ
 slot_of None = 8
-slot_of (Some x) = 16
+slot_of (Some (a_number x)) = 16
+slot_of (Some (a_vector xs)) = 24 + padded (length xs)
 
-abbrev pub slots_of : List (Option ℕ) → ℕ
+abbrev pub slots_of : List (Option Member) → ℕ
 slots_of [] = 0
 slots_of (v ∷ vs) = slot_of v + slots_of vs
 
 -- an object that is a list of bytes
 abbrev pub list_object : List ℕ → List ℕ
 list_object xs = object_bytes (join (list_part_of xs) nothing)
+
+-- and one that is two tables
+abbrev pub tables_object : List (Option Member) → List (Option Member) → List ℕ
+tables_object first second = object_bytes (join (table_part first) (join (table_part second) nothing))

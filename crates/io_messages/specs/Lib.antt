@@ -4,6 +4,7 @@ pub mod Tokens
 pub mod Shapes
 pub mod Failing
 pub mod Kinds
+pub mod Members
 pub mod Requests
 pub mod Replies
 pub mod Writing

@@ -3,6 +3,8 @@ use Rattle.std.specs.Prelude.{ℕ, ◌==◌, Bool, true, false, List, [], ◌∷
 use Rattle.fidl_names.specs.declared.methods.Method.{Method}
 use Rattle.fidl_names.specs.declared.statuses.Status.{Status}
 use Rattle.fidl_wire.specs.declared.kinds.HandleKind.TheVariants as kinds
+use Rattle.fidl_wire.specs.declared.kinds.MemberKind.{MemberKind}
+use Rattle.fidl_wire.specs.declared.kinds.MemberKind.TheVariants as member
 use Rattle.fidl_wire.specs.Layout.{Cell, Layout, Variant, struct, union, empty, word, object, number, pad, handle, text, vector, table}
 use Rattle.fidl_wire.specs.Names.{method_ordinal}
 use Rattle.io_messages.specs.declared.replies.Attributes.{Attributes}
@@ -42,9 +44,9 @@ answered (reply.Unknown ordinal) = unknown ordinal
 abbrev pub result_of : Variant → Layout
 result_of success = union ((1, success) ∷ (2, word) ∷ [])
 
--- which members of the immutable attributes are known: protocols, abilities, content size, not the storage size, link count, id
-abbrev pub known_attributes : List Bool
-known_attributes = true ∷ true ∷ true ∷ false ∷ true ∷ true ∷ []
+-- the immutable attributes are numbers that may be absent: protocols, abilities, content size, link count, id. The storage size isn't known
+abbrev pub known_attributes : List MemberKind
+known_attributes = member.Number false ∷ member.Number false ∷ member.Number false ∷ member.Unknown ∷ member.Number false ∷ member.Number false ∷ []
 
 -- the mutable attributes, of which none is known, and the immutable ones
 abbrev pub attribute_cells : List Cell

@@ -11,6 +11,7 @@ use Rattle.fidl_names.specs.declared.statuses.Status.TheVariants as status
 use Rattle.fidl_names.specs.StatusNumber.{number_of}
 use Rattle.fidl_wire.specs.declared.headers.Header.{Header}
 use Rattle.fidl_wire.specs.Headers.{header_bytes}
+use Rattle.io_messages.specs.Members.{numbers}
 use Rattle.fidl_wire.specs.Layout.{Content, Layout, struct, fields, branch, num, blank, held, seq, members}
 use Rattle.fidl_wire.specs.Names.{method_ordinal, event_ordinal}
 use Rattle.fidl_wire.specs.Numbers.{padded}
@@ -98,7 +99,7 @@ content_of (answers.counted m x) = branch 1 (num x ∷ [])
 content_of (answers.payload m bytes) = carried (shape_of m) bytes
 content_of (answers.settled m) = fields (num 0 ∷ [])
 content_of (answers.token n) = fields (num 0 ∷ held (Some (Token n)) ∷ [])
-content_of (answers.attributes a) = branch 1 (members [] ∷ members (attribute_members a) ∷ [])
+content_of (answers.attributes a) = branch 1 (members [] ∷ members (numbers (attribute_members a)) ∷ [])
 content_of (answers.unknown ordinal) = fields (num framework_ordinal ∷ num framework_envelope ∷ [])
 
 -- ---- messages

@@ -10,9 +10,10 @@ use Rattle.fidl_wire.specs.declared.faults.WireFault.{WireFault}
 use Rattle.fidl_wire.specs.declared.faults.WireWhat.TheVariants.{Txid}
 use Rattle.fidl_wire.specs.declared.headers.Header.{Header}
 use Rattle.fidl_wire.specs.declared.kinds.HandleKind.TheVariants as kinds
+use Rattle.fidl_wire.specs.declared.kinds.MemberKind.TheVariants as kind
 use Rattle.fidl_wire.specs.Grammar.{IsSpelled}
 use Rattle.fidl_wire.specs.Headers.{header_of, fault}
-use Rattle.fidl_wire.specs.Layout.{Cell, Item, Content, struct, fields, branch, number, pad, handle, text, vector, table, num, blank, held, seq, members}
+use Rattle.fidl_wire.specs.Layout.{Cell, Item, Content, Member, struct, fields, branch, number, pad, handle, text, vector, table, num, blank, held, seq, members}
 use Rattle.fidl_wire.specs.Names.{method_ordinal}
 use Rattle.fidl_wire.specs.Numbers.{padded}
 use Rattle.fidl_wire.specs.Reading.{◌>>=◌, body_of}
@@ -22,6 +23,7 @@ use Rattle.io_messages.specs.declared.requests.RequestFault.TheVariants.{Malform
 use Rattle.io_messages.specs.declared.requests.Request.{Request}
 use Rattle.io_messages.specs.Asked.{Asked, asked, method_of}
 use Rattle.io_messages.specs.Asked as asks
+use Rattle.io_messages.specs.Members.{numbers, number_of}
 use Rattle.io_messages.specs.Protocols.{has_method, all_methods}
 use Rattle.io_messages.specs.Shapes.{is_one_way}
 
@@ -33,9 +35,9 @@ an_endpoint = handle kinds.AnEndpoint false
 abbrev pub a_token : Cell
 a_token = handle kinds.AToken false
 
--- a table whose member 1 alone is known
+-- a table whose member 1 alone is known, a number that may be absent
 abbrev pub options : Cell
-options = table (true ∷ [])
+options = table (kind.Number false ∷ [])
 
 -- two names, and between them the token of the directory that the second is in
 abbrev pub two_names : List Cell
@@ -83,13 +85,13 @@ items_of asks.query = []
 items_of (asks.get_attributes bits) = num bits ∷ []
 items_of asks.sync = []
 items_of (asks.open_path path flags attributes object) =
-    seq path ∷ num flags ∷ members (attributes ∷ []) ∷ held_endpoint object ∷ blank ∷ []
+    seq path ∷ num flags ∷ members (numbers (attributes ∷ [])) ∷ held_endpoint object ∷ blank ∷ []
 items_of (asks.read_dirents max_bytes) = num max_bytes ∷ []
 items_of asks.rewind = []
 items_of asks.get_token = []
 items_of (asks.rename src token dst) = seq src ∷ held_token token ∷ blank ∷ seq dst ∷ []
 items_of (asks.link src token dst) = seq src ∷ held_token token ∷ blank ∷ seq dst ∷ []
-items_of (asks.unlink name flags) = seq name ∷ members (flags_member flags ∷ []) ∷ []
+items_of (asks.unlink name flags) = seq name ∷ members (numbers (flags_member flags ∷ [])) ∷ []
 items_of (asks.watch mask options watcher) = num mask ∷ num options ∷ held_endpoint watcher ∷ []
 items_of (asks.read count) = num count ∷ []
 items_of (asks.read_at count offset) = num count ∷ num offset ∷ []
@@ -116,12 +118,12 @@ handle_of (held (Some h)) = number_of_handle h
 handle_of _ = 0
 
 -- the member of a table with one that is known
-abbrev pub first_member : List (Option ℕ) → Option ℕ
+abbrev pub first_member : List (Option Member) → Option Member
 first_member [] = None
 first_member (x ∷ xs) = x
 
 abbrev pub member_of : Item → Option ℕ
-member_of (members values) = first_member values
+member_of (members values) = number_of (first_member values)
 member_of _ = None
 
 abbrev pub num_in : ℕ → List Item → ℕ

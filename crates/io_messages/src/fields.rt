@@ -1,16 +1,18 @@
-ghost use Rattle.std.specs.Prelude.{◌≡◌, ◌+◌, ◌%◌, ◌<◌, ◌≤◌, ◌++◌, length, take, MatchOption};
+ghost use Rattle.std.specs.Prelude.{◌≡◌, ◌+◌, ◌%◌, ◌<◌, ◌≤◌, ◌++◌, length, take, option_map, MatchOption};
+ghost use Rattle.fidl_wire.specs.Layout.{a_number};
+ghost use Rattle.fidl_wire.specs.Told.{all_told, told};
 ghost use Rattle.fidl_wire.specs.Written.{padded_bytes};
 ghost use Rattle.fidl_wire.specs.Spelling.{given, member_part, members_part, object_bytes, count_bytes};
-ghost use Rattle.io_messages.specs.Fields.{part_of, parts_of, part_size, parts_size, slots_of};
+ghost use Rattle.io_messages.specs.Fields.{part_of, parts_of, part_size, parts_size, slot_of, slots_of};
 
 use fidl_names::{Handle, MAX_BYTES, MAX_HANDLES};
-use fidl_wire::{Out, padding_after};
+use fidl_wire::{Member, Out, padding_after};
 
 /// What marks a list or a handle as present.
 const PRESENT: u64 = u64::MAX;
 
-/// The bytes of a member of a table, in its envelope.
-const MEMBER_SIZE: u64 = 8;
+/// The bytes of a number in a table, as its envelope counts them.
+const NUMBER_SIZE: u64 = 8;
 
 /// The most bytes of a message behind its header.
 const MOST_BODY: usize = MAX_BYTES - 16;
@@ -28,7 +30,17 @@ pub enum Field<'a, 'b> {
     /// A string or a vector of bytes.
     Bytes(&'a [u8]),
     /// A table, by its members from the first on.
-    Table(&'b [Option<u64>]),
+    Table(&'b [Option<Member<'a>>]),
+}
+
+/// A member that is a number, or absent.
+pub fn number_member(number: Option<u64>) -> Option<Member<'static>>
+    ensures { option_map told result ≡ option_map a_number number }
+{
+    match number {
+        None => None,
+        Some(x) => Some(Member::Number(x)),
+    }
 }
 
 /// Appends an object behind a multiple of eight bytes: its fields, their padding, and what they have
@@ -75,20 +87,51 @@ fn room_behind(field: Field<'_, '_>, room: usize) -> Option<usize>
             }
             room.checked_sub(16 + bytes.len() + padding_after(bytes.len()))
         }
-        Field::Table(members) => {
-            let count = given_count(members);
-            if count > room {
+        Field::Table(members) => room_behind_table(members, room),
+    }
+}
+
+/// What is left of so many bytes behind a table.
+fn room_behind_table(members: &[Option<Member<'_>>], room: usize) -> Option<usize>
+    requires { room ≤ MAX_BYTES }
+    ensures { MatchOption result (room < 16 + slots_of (given (all_told members.now))) (λ left. left + (16 + slots_of (given (all_told members.now))) ≡ room) }
+{
+    let left = room.checked_sub(16)?;
+    room_behind_members(&members[..given_count(members)], left)
+}
+
+/// What is left of so many bytes behind the envelopes of these members and what they hold.
+fn room_behind_members(members: &[Option<Member<'_>>], room: usize) -> Option<usize>
+    requires { room ≤ MAX_BYTES }
+    ensures { MatchOption result (room < slots_of (all_told members.now)) (λ left. left + slots_of (all_told members.now) ≡ room) }
+{
+    let mut left = room;
+    for member in members {
+        left = room_behind_member(*member, left)?;
+    }
+    Some(left)
+}
+
+fn room_behind_member(member: Option<Member<'_>>, room: usize) -> Option<usize>
+    requires { room ≤ MAX_BYTES }
+    ensures { MatchOption result (room < slot_of (option_map told member.entry)) (λ left. left + slot_of (option_map told member.entry) ≡ room) }
+{
+    match member {
+        None => room.checked_sub(8),
+        Some(Member::Number(_)) => room.checked_sub(16),
+        Some(Member::Bytes(bytes)) => {
+            if bytes.len() > room {
                 return None;
             }
-            room.checked_sub(16 + slots_size(&members[..count]))
+            room.checked_sub(24 + bytes.len() + padding_after(bytes.len()))
         }
     }
 }
 
 /// How many members there are up to the last that is given.
-fn given_count(members: &[Option<u64>]) -> usize
+fn given_count(members: &[Option<Member<'_>>]) -> usize
     ensures bound { result ≤ length members.now }
-    ensures given { take result members.now ≡ given members.now }
+    ensures given { all_told (take result members.now) ≡ given (all_told members.now) }
 {
     let mut count = 0;
     for (i, member) in members.iter().enumerate() {
@@ -97,18 +140,6 @@ fn given_count(members: &[Option<u64>]) -> usize
         }
     }
     count
-}
-
-/// How many bytes the envelopes of these members have, with what they hold.
-fn slots_size(members: &[Option<u64>]) -> usize
-    requires { length members.now ≤ MAX_BYTES }
-    ensures size { result ≡ slots_of members.now }
-{
-    let mut size = 0;
-    for member in members {
-        size += if member.is_some() { 16 } else { 8 };
-    }
-    size
 }
 
 /// Appends what stands in the object.
@@ -170,9 +201,10 @@ pub fn put_padded(out: &mut Out, bytes: &[u8])
 }
 
 /// Appends the envelopes of members.
-fn put_envelopes(out: &mut Out, members: &[Option<u64>])
-    requires { length out.old.bytes + length (members_part members.now).inline ≤ MAX_BYTES }
-    ensures bytes { out.new.bytes ≡ out.old.bytes ++ (members_part members.now).inline }
+fn put_envelopes(out: &mut Out, members: &[Option<Member<'_>>])
+    requires room { length out.old.bytes + length (members_part (all_told members.now)).inline ≤ MAX_BYTES }
+    requires held { length (members_part (all_told members.now)).outside ≤ MAX_BYTES }
+    ensures bytes { out.new.bytes ≡ out.old.bytes ++ (members_part (all_told members.now)).inline }
     ensures handles { out.new.handles ≡ out.old.handles }
 {
     for member in members {
@@ -180,21 +212,27 @@ fn put_envelopes(out: &mut Out, members: &[Option<u64>])
     }
 }
 
-fn put_envelope(out: &mut Out, member: Option<u64>)
-    requires { length out.old.bytes + length (member_part member).inline ≤ MAX_BYTES }
-    ensures bytes { out.new.bytes ≡ out.old.bytes ++ (member_part member).inline }
+fn put_envelope(out: &mut Out, member: Option<Member<'_>>)
+    requires room { length out.old.bytes + length (member_part (option_map told member)).inline ≤ MAX_BYTES }
+    requires held { length (member_part (option_map told member)).outside ≤ MAX_BYTES }
+    ensures bytes { out.new.bytes ≡ out.old.bytes ++ (member_part (option_map told member.entry)).inline }
     ensures handles { out.new.handles ≡ out.old.handles }
 {
     match member {
         None => out.put_u64(0),
-        Some(_) => out.put_u64(MEMBER_SIZE),
+        Some(Member::Number(_)) => out.put_u64(NUMBER_SIZE),
+        Some(Member::Bytes(bytes)) => {
+            out.put_u32((16 + bytes.len() + padding_after(bytes.len())) as u32);
+            out.put_u32(0);
+        }
     }
 }
 
-/// Appends the members that are given.
-fn put_members(out: &mut Out, members: &[Option<u64>])
-    requires { length out.old.bytes + length (members_part members.now).outside ≤ MAX_BYTES }
-    ensures bytes { out.new.bytes ≡ out.old.bytes ++ (members_part members.now).outside }
+/// Appends what members hold.
+fn put_members(out: &mut Out, members: &[Option<Member<'_>>])
+    requires aligned { length out.old.bytes % 8 ≡ 0 }
+    requires room { length out.old.bytes + length (members_part (all_told members.now)).outside ≤ MAX_BYTES }
+    ensures bytes { out.new.bytes ≡ out.old.bytes ++ (members_part (all_told members.now)).outside }
     ensures handles { out.new.handles ≡ out.old.handles }
 {
     for member in members {
@@ -202,14 +240,28 @@ fn put_members(out: &mut Out, members: &[Option<u64>])
     }
 }
 
-fn put_member(out: &mut Out, member: Option<u64>)
-    requires { length out.old.bytes + length (member_part member).outside ≤ MAX_BYTES }
-    ensures bytes { out.new.bytes ≡ out.old.bytes ++ (member_part member).outside }
+fn put_member(out: &mut Out, member: Option<Member<'_>>)
+    requires aligned { length out.old.bytes % 8 ≡ 0 }
+    requires room { length out.old.bytes + length (member_part (option_map told member)).outside ≤ MAX_BYTES }
+    ensures bytes { out.new.bytes ≡ out.old.bytes ++ (member_part (option_map told member.entry)).outside }
     ensures handles { out.new.handles ≡ out.old.handles }
 {
-    if let Some(x) = member {
-        out.put_u64(x);
+    match member {
+        None => {}
+        Some(Member::Number(number)) => out.put_u64(number),
+        Some(Member::Bytes(bytes)) => put_list(out, bytes),
     }
+}
+
+/// Appends a list of bytes: its count, and the bytes with their padding.
+fn put_list(out: &mut Out, bytes: &[u8])
+    requires aligned { length out.old.bytes % 8 ≡ 0 }
+    requires room { length out.old.bytes + length (count_bytes (length bytes.now) ++ padded_bytes bytes.now) ≤ MAX_BYTES }
+    ensures bytes { out.new.bytes ≡ out.old.bytes ++ (count_bytes (length bytes.now) ++ padded_bytes bytes.now) }
+    ensures handles { out.new.handles ≡ out.old.handles }
+{
+    put_count(out, bytes.len());
+    put_padded(out, bytes);
 }
 
 fn put_all_inline(out: &mut Out, fields: &[Field<'_, '_>])

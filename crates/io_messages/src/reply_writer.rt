@@ -4,17 +4,18 @@ ghost use Rattle.fidl_names.specs.Numbers.{number_bytes};
 ghost use Rattle.fidl_wire.specs.Numbers.{padded, padding_after};
 ghost use Rattle.fidl_wire.specs.Written.{padded_bytes};
 ghost use Rattle.fidl_wire.specs.Spelling.{object_bytes, count_bytes, envelope_bytes, body_bytes, body_handles};
-ghost use Rattle.io_messages.specs.Fields.{list_object, parts_of};
+ghost use Rattle.io_messages.specs.Fields.{list_object, parts_of, tables_object};
+ghost use Rattle.fidl_wire.specs.Told.{all_told};
 ghost use Rattle.io_messages.specs.Shapes.{shape_of};
 ghost use Rattle.io_messages.specs.Replies.{answered, attributes, beside_payload, payload};
 ghost use Rattle.io_messages.specs.ReplyWriting.{HasReply, PayloadFits, CanFail, CanCarry, reply_bytes, reply_body, reply_handles, reply_header, layout_of, failure, carried, event_bytes, status_word};
 
-use crate::fields::{Field, put_count, put_object, put_padded, size_of};
+use crate::fields::{Field, number_member, put_count, put_object, put_padded, size_of};
 use crate::kinds::branch_of_kind;
 use crate::protocols::Protocol;
 use crate::replies::{Attributes, ERROR, FRAMEWORK_ENVELOPE, FRAMEWORK_ORDINAL, Reply, SUCCESS, Shape, shape_of};
 use fidl_names::{Handle, MAX_BYTES, Method, Status, long_array, word_array};
-use fidl_wire::{Header, Ordinals, Out, padding_after};
+use fidl_wire::{Header, Member, Ordinals, Out, padding_after};
 
 /// Behind the value in an envelope: no handle, and the flag that the value stands there.
 const INLINED: u32 = 0x0001_0000;
@@ -236,14 +237,29 @@ fn put_attributes(a: &Attributes, out: &mut Out)
     ensures handles { out.new.handles ≡ [] }
 {
     let members = [
-        a.protocols,
-        a.abilities,
-        a.content_size,
+        number_member(a.protocols),
+        number_member(a.abilities),
+        number_member(a.content_size),
         None,
-        a.link_count,
-        a.id,
+        number_member(a.link_count),
+        number_member(a.id),
     ];
-    put_branch(SUCCESS, &[Field::Table(&[]), Field::Table(&members)], out);
+    put_tables(&[], &members, out);
+}
+
+/// Appends a result with two tables.
+fn put_tables<'a, 'b>(
+    first: &'b [Option<Member<'a>>],
+    second: &'b [Option<Member<'a>>],
+    out: &mut Out,
+)
+    requires head { length out.old.bytes ≡ 16 }
+    requires free { out.old.handles ≡ [] }
+    requires room { 32 + length (tables_object (all_told first.now) (all_told second.now)) ≤ MAX_BYTES }
+    ensures bytes { out.new.bytes ≡ out.old.bytes ++ (number_bytes 8 1 ++ envelope_bytes (length (tables_object (all_told first.now) (all_told second.now))) 0 0 ++ tables_object (all_told first.now) (all_told second.now)) }
+    ensures handles { out.new.handles ≡ [] }
+{
+    put_branch(SUCCESS, &[Field::Table(first), Field::Table(second)], out);
 }
 
 /// Writes the event `OnRepresentation` into an empty output: the kind of node that was opened. A

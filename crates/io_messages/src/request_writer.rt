@@ -8,7 +8,7 @@ ghost use Rattle.io_messages.specs.Requests.{has_txid};
 ghost use Rattle.io_messages.specs.Shapes.{is_one_way};
 ghost use Rattle.io_messages.specs.Writing.{request_bytes, request_body, request_handles, HasTexts, Wrote};
 
-use crate::fields::{Field, put_object, put_padded, size_of};
+use crate::fields::{Field, number_member, put_object, put_padded, size_of};
 use crate::requests::{Request, TooLong};
 use fidl_names::{Handle, MAX_BYTES, MAX_HANDLES, long_array};
 use fidl_wire::{Header, Ordinals, Out};
@@ -123,7 +123,7 @@ fn write_open(
             &[
                 Field::Bytes(path),
                 Field::Long(flags),
-                Field::Table(&[attributes]),
+                Field::Table(&[number_member(attributes)]),
                 Field::Held(Handle::Endpoint(object)),
                 Field::Blank,
             ],
@@ -196,7 +196,8 @@ fn write_unlink(header: Header, name: &[u8], flags: u64, out: &mut Out) -> Resul
     ensures { Wrote (header_bytes header ++ request_body (unlink name.now flags)) (request_handles (unlink name.now flags)) result out.old out.new }
 {
     let flags = if flags == 0 { None } else { Some(flags) };
-    write_fields(header, &[Field::Bytes(name), Field::Table(&[flags])], out)
+    let options = [number_member(flags)];
+    write_fields(header, &[Field::Bytes(name), Field::Table(&options)], out)
 }
 
 /// Writes a message whose one field is a number of eight bytes.

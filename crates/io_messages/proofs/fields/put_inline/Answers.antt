@@ -1,6 +1,7 @@
 use Rattle.std.proofs.Common.{ℕ, List, ◌++◌, length, ap, ◌∙◌, sym, arith}
 use Rattle.fidl_wire.specs.Reading.{present_word}
 use Rattle.fidl_wire.specs.Spelling.{given}
+use Rattle.fidl_wire.specs.Told.{all_told}
 use Rattle.io_messages.specs.declared.fields.Field.{Field}
 use Rattle.io_messages.specs.Fields.{part_of}
 use Rattle.io_messages.proofs.Lengths.{length-number, length-count, four_zeros}
@@ -22,7 +23,7 @@ pub put_count-requires : goal.put_count-requires
 put_count-requires c = omega (arith, c.requires, ap (λ (f : Field). length (part_of f).inline) c.in-Bytes.is, length-count (length c.in-Bytes.bytes.now))
 
 pub put_count-requires-in-Table : goal.put_count-requires-in-Table
-put_count-requires-in-Table c = omega (arith, c.requires, ap (λ (f : Field). length (part_of f).inline) c.in-Table.is, length-count (length (given c.in-Table.members.now)))
+put_count-requires-in-Table c = omega (arith, c.requires, ap (λ (f : Field). length (part_of f).inline) c.in-Table.is, length-count (length (given (all_told c.in-Table.members.now))))
 
 pub returns-in-Blank-clause-bytes : goal.returns-in-Blank-clause-bytes
 returns-in-Blank-clause-bytes c =

@@ -1,7 +1,6 @@
-use Rattle.std.proofs.Common.{take, length-take, arith}
 use Rattle.io_messages.specs.declared.fields.Field.TheVariants.{Word, Long, Held, Absent}
 use Rattle.io_messages.specs.Fields.{part_size}
-use Rattle.io_messages.proofs.Lengths.{size_at, left_of, word_size, long_size, held_size, absent_size, list_bytes, table_slots, many_slots, slots-most}
+use Rattle.io_messages.proofs.Lengths.{size_at, left_of, word_size, long_size, held_size, absent_size, list_bytes, table_slots, moved_room}
 use Rattle.io_messages.proofs.fields.room_behind.Goals as goal
 
 pub returns-in-Word : goal.returns-in-Word
@@ -16,19 +15,8 @@ returns-in-Held c = left_of c.checked_sub-in-Held.result c.args.room 4 (part_siz
 pub returns-in-Absent : goal.returns-in-Absent
 returns-in-Absent c = left_of c.checked_sub-in-Absent.result c.args.room 4 (part_size c.args.field) (size_at c.args.field (Absent) 4 c.in-Absent.is absent_size) c.checked_sub-in-Absent.ensures
 
-pub returns-then-count-room : goal.returns-then-count-room
-returns-then-count-room c =
-    many_slots c.args.field c.in-Table.members c.args.room c.given_count-count.result c.in-Table.is c.given_count-count.ensures.given c.given_count-count.ensures.bound c.if-count-room.true
-
-pub overflow_add-slots_size : goal.overflow_add-slots_size
-overflow_add-slots_size c =
-    omega (arith, c.requires, c.slots_size.ensures.size, slots-most (take c.given_count-count.result c.in-Table.members.now), length-take c.given_count-count.result c.in-Table.members.now)
-
 pub returns-else-bytes-room : goal.returns-else-bytes-room
 returns-else-bytes-room c = left_of c.checked_sub-in-Bytes.result c.args.room _ (part_size c.args.field) (list_bytes c.args.field c.in-Bytes.bytes c.padding_after.result c.in-Bytes.is c.padding_after.ensures.value) c.checked_sub-in-Bytes.ensures
 
-pub returns-else-count-room : goal.returns-else-count-room
-returns-else-count-room c =
-    left_of c.checked_sub-in-Table.result c.args.room _ (part_size c.args.field)
-    (table_slots c.args.field c.in-Table.members c.slots_size.result _ c.in-Table.is c.given_count-count.ensures.given c.slots_size.ensures.size)
-    c.checked_sub-in-Table.ensures
+pub returns-in-Table : goal.returns-in-Table
+returns-in-Table c = moved_room c.room_behind_table.result c.args.room _ (part_size c.args.field) (table_slots c.args.field c.in-Table.members c.in-Table.is) c.room_behind_table.ensures
