@@ -145,7 +145,7 @@ is_some-told None = refl
 is_some-told (Some x) = refl
 
 required_suc : (kinds : List MemberKind) (values : List (Option MemberNow)) (i : ℕ) (d : MemberKind) → i < length kinds → length kinds ≡ length values →
-    has_required (drop i kinds) (all_told (drop i values)) ≡ ((is_some (get_or values i None) || not (is_required (get_or kinds i d))) && has_required (drop (suc i) kinds) (all_told (drop (suc i) values)))
+    has_required (drop i kinds) (all_told (drop i values)) ≡ ((not (is_required (get_or kinds i d)) || is_some (get_or values i None)) && has_required (drop (suc i) kinds) (all_told (drop (suc i) values)))
 required_suc [] values i d below same = absurd (omega arith)
 required_suc (l ∷ ks) [] i d below same = absurd (omega arith)
 required_suc (l ∷ ks) (w ∷ ws) zero d below same = rw (is_some-told w) refl
@@ -153,15 +153,15 @@ required_suc (l ∷ ks) (w ∷ ws) (suc i) d below same = required_suc ks ws i d
 
 -- the members from an index on are there where it is, or needn't be, and those behind it are
 pub required-more : (kinds : List MemberKind) (values : List (Option MemberNow)) (i : ℕ) (d : MemberKind) → i < length kinds → length kinds ≡ length values →
-    has_required (drop i kinds) (all_told (drop i values)) ≡ ((is_some (get_or values i None) || not (is_required (get_or kinds i d))) && has_required (drop (i + 1) kinds) (all_told (drop (i + 1) values)))
+    has_required (drop i kinds) (all_told (drop i values)) ≡ ((not (is_required (get_or kinds i d)) || is_some (get_or values i None)) && has_required (drop (i + 1) kinds) (all_told (drop (i + 1) values)))
 required-more kinds values i d below same = rw (add-one i) (required_suc kinds values i d below same)
 
-pub needed-there : (v : Option MemberNow) (k : MemberKind) (rest : Bool) → is_some v ≡ true → rest ≡ ((is_some v || not (is_required k)) && rest)
-needed-there v k rest h = rw h refl
+pub needed-there : (v : Option MemberNow) (k : MemberKind) (rest : Bool) → is_some v ≡ true → rest ≡ ((not (is_required k) || is_some v) && rest)
+needed-there v k rest h = rw h (either (not (is_required k)))
+  where
+    either : (b : Bool) → rest ≡ ((b || true) && rest)
+    either true = refl
+    either false = refl
 
-pub needed-not : (v : Option MemberNow) (k : MemberKind) (rest : Bool) → is_required k ≡ false → rest ≡ ((is_some v || not (is_required k)) && rest)
-needed-not None k rest h = rw h refl
-needed-not (Some x) k rest h = refl
-
-pub needed-absent : (v : Option MemberNow) (k : MemberKind) (rest : Bool) → is_some v ≡ false → is_required k ≡ true → ((is_some v || not (is_required k)) && rest) ≡ false
-needed-absent v k rest h g = rw (h, g) refl
+pub needed-not : (v : Option MemberNow) (k : MemberKind) (rest : Bool) → is_required k ≡ false → rest ≡ ((not (is_required k) || is_some v) && rest)
+needed-not v k rest h = rw h refl

@@ -65,7 +65,7 @@ is_required (member.Bytes required) = required
 
 -- and each that has to be there is
 abbrev pub has_required : List MemberKind → List (Option Member) → Bool
-has_required (k ∷ ks) (v ∷ vs) = (is_some v || not (is_required k)) && has_required ks vs
+has_required (k ∷ ks) (v ∷ vs) = (not (is_required k) || is_some v) && has_required ks vs
 has_required _ _ = true
 
 -- how many inline bytes a cell has

@@ -21,7 +21,7 @@ use Rattle.fidl_wire.specs.Names.{event_ordinal}
 use Rattle.fidl_wire.specs.Spelling.{body_bytes}
 use Rattle.io_messages.specs.Replies.{Answered, event_layout}
 use Rattle.io_messages.specs.Replies as answers
-use Rattle.io_messages.specs.ReplyWriting.{branch_of_kind, carried, content_of, event_bytes, failure, layout_of, reply_body, reply_bytes, reply_handles, reply_header, written_layout}
+use Rattle.io_messages.specs.ReplyWriting.{attribute_members, branch_of_kind, carried, content_of, event_bytes, failure, layout_of, reply_body, reply_bytes, reply_handles, reply_header, written_layout}
 use Rattle.io_messages.specs.Shapes.{shape_of}
 use Rattle.io_messages.specs.Writing.{plain_header}
 use Rattle.io_messages.specs.declared.protocols.Protocol.{Protocol}
@@ -29,9 +29,8 @@ use Rattle.io_messages.specs.declared.replies.Shape.{Shape}
 use Rattle.io_messages.specs.declared.replies.Shape.TheVariants as shape
 use Rattle.vfs_journal.specs.Outcomes.{Asker, announcement, close_frame, ending, reply_frame}
 use Rattle.vfs_journal.specs.Output.{refused_frame}
-use Rattle.frame_laws.proofs.Sizes.{body_size, is_small, rooms_of}
-use Rattle.journal_laws.proofs.Texts.{both_written, none_written}
-use Rattle.frame_laws.proofs.Written.{AreWritable, body_is, header_written, items_of, length-header, length-number, number_written}
+use Rattle.frame_laws.proofs.Sizes.{body_size, is_small, numbers_most, rooms_of}
+use Rattle.frame_laws.proofs.Written.{AreWritable, body_is, both_written, header_written, items_of, length-header, length-number, none_written, number_written, numbers_of_bytes}
 
 -- ---- frames by their parts
 
@@ -179,7 +178,7 @@ few_items (answers.counted m x) h = record { written = (tt, tt); few = omega ari
 few_items (answers.payload m bytes) h = few_carried (shape_of m) bytes h.0 h.1
 few_items (answers.settled m) h = record { written = (tt, tt); few = omega arith; room = omega arith }
 few_items (answers.token n) h = record { written = (tt, (h, tt)); few = omega arith; room = omega arith }
-few_items (answers.attributes a) h = record { written = (tt, (tt, tt)); few = omega arith; room = omega arith }
+few_items (answers.attributes a) h = record { written = (tt, (numbers_of_bytes (attribute_members a), tt)); few = omega arith; room = omega (arith, numbers_most (attribute_members a)) }
 few_items (answers.unknown ordinal) h = record { written = (tt, (tt, tt)); few = omega arith; room = omega arith }
 
 pub replies_within : (a : Answered) → IsWithin a → HasFrame a

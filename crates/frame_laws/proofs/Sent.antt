@@ -43,7 +43,7 @@ onward_message flags rest object path low =
     let short = path.short in
     record {
       bytes = both_written (header_bytes header) (request_body open') (header_written header)
-          (body_is (struct cells) (fields (items_of open')) (text_in_bytes (text_of rest) path.utf8, (tt, (tt, (low, (tt, tt)))))).bytes;
+          (body_is (struct cells) (fields (items_of open')) (text_in_bytes (text_of rest) path.utf8, (tt, ((tt, tt), (low, (tt, tt)))))).bytes;
       short = omega (arith, length-append (header_bytes header) (request_body open'), length-header header, size, short);
     }
 

@@ -5,9 +5,11 @@ use Rattle.std.proofs.lemmas.List.{length-append, length-replicate}
 use Rattle.fidl_names.specs.Numbers.{number_bytes}
 use Rattle.fidl_names.specs.declared.methods.Handle.{Handle}
 use Rattle.fidl_wire.specs.Grammar.{Part, nothing, join}
-use Rattle.fidl_wire.specs.Layout.{Cell, Item, Variant, Layout, Content, number, pad, handle, text, vector, table, num, blank, held, seq, members, empty, word, object, struct, union, fields, branch, variant_of}
+use Rattle.io_messages.specs.Members.{numbers}
+use Rattle.fidl_wire.specs.Numbers.{padded}
+use Rattle.fidl_wire.specs.Layout.{Member, a_number, a_vector, Cell, Item, Variant, Layout, Content, number, pad, handle, text, vector, table, num, blank, held, seq, members, empty, word, object, struct, union, fields, branch, variant_of}
 use Rattle.fidl_wire.specs.Reading.{present_word}
-use Rattle.fidl_wire.specs.Spelling.{body_bytes, envelope_bytes, given, handle_part, kept, member_part, members_part, object_bytes, option_bytes, spelling_of, spelling_of_all, table_part, variant_bytes}
+use Rattle.fidl_wire.specs.Spelling.{body_bytes, count_bytes, envelope_bytes, given, handle_part, kept, member_part, members_part, object_bytes, option_bytes, spelling_of, spelling_of_all, table_part, variant_bytes}
 use Rattle.fidl_wire.specs.Written.{padded_bytes}
 use Rattle.frame_laws.proofs.Written.{items_of, length-count, length-envelope, length-number, length-padded}
 
@@ -37,13 +39,29 @@ is_small (union variants) = small_variants variants
 
 -- ---- parts
 
+-- how many bytes a member may have, with its envelope
+abbrev pub slot_of : Option Member → ℕ
+slot_of None = 16
+slot_of (Some (a_number x)) = 16
+slot_of (Some (a_vector xs)) = 31 + length xs
+
+abbrev pub slots_of : List (Option Member) → ℕ
+slots_of [] = 0
+slots_of (v ∷ vs) = slot_of v + slots_of vs
+
+-- one that is a number has sixteen
+pub numbers_most : (vs : List (Option ℕ)) → slots_of (numbers vs) ≤ 16 * length vs
+numbers_most [] = omega arith
+numbers_most (None ∷ vs) = omega (arith, numbers_most vs)
+numbers_most (Some x ∷ vs) = omega (arith, numbers_most vs)
+
 -- how many bytes an item may have out of line
 abbrev pub room_of : Item → ℕ
 room_of (num x) = 0
 room_of blank = 0
 room_of (held h) = 0
 room_of (seq xs) = length xs + 7
-room_of (members vs) = 16 * length vs
+room_of (members vs) = slots_of vs
 
 abbrev pub rooms_of : List Item → ℕ
 rooms_of [] = 0
@@ -62,33 +80,32 @@ joined_size p q a b c d h k = record {
 no_size : (a b : ℕ) → HasSize nothing a b
 no_size a b = record { inline_is = omega arith; outside_is = omega arith }
 
-member_size : (v : Option ℕ) → HasSize (member_part v) 8 8
-member_size None = record { inline_is = omega (arith, length-number 8 0); outside_is = omega arith }
-member_size (Some x) = record { inline_is = omega (arith, length-envelope 8 0 0); outside_is = omega (arith, length-number 8 x) }
+-- a member takes at most its slot
+member_size : (v : Option Member) → length (member_part v).inline + length (member_part v).outside ≤ slot_of v
+member_size None = omega (arith, length-number 8 0)
+member_size (Some (a_number x)) = omega (arith, length-envelope 8 0 0, length-number 8 x)
+member_size (Some (a_vector xs)) =
+    omega (arith, length-envelope (16 + padded (length xs)) 0 0, length-append (count_bytes (length xs)) (padded_bytes xs), length-count (length xs), length-padded xs)
 
-members_size : (vs : List (Option ℕ)) → HasSize (members_part vs) (8 * length vs) (8 * length vs)
-members_size [] = no_size 0 0
+members_size : (vs : List (Option Member)) → length (members_part vs).inline + length (members_part vs).outside ≤ slots_of vs
+members_size [] = omega arith
 members_size (v ∷ vs) =
-    let rest = members_size vs in
-    let first = member_size v in
-    let whole = joined_size (member_part v) (members_part vs) 8 8 (8 * length vs) (8 * length vs) first rest in
-    record { inline_is = omega (arith, whole.inline_is); outside_is = omega (arith, whole.outside_is) }
+    omega (arith, member_size v, members_size vs, length-append (member_part v).inline (members_part vs).inline, length-append (member_part v).outside (members_part vs).outside)
 
-few_given : (vs : List (Option ℕ)) → length (given vs) ≤ length vs
-few_given [] = omega arith
-few_given (Some x ∷ vs) = omega (arith, few_given vs)
-few_given (None ∷ vs) = by_rest (given vs) (few_given vs) where
-  by_rest : (ws : List (Option ℕ)) → length ws ≤ length vs → length (kept None ws) ≤ suc (length vs)
-  by_rest [] h = omega arith
-  by_rest (w ∷ ws) h = omega (arith, h)
+kept_most : (v : Option Member) (g : List (Option Member)) → slots_of (kept v g) ≤ slot_of v + slots_of g
+kept_most None [] = omega arith
+kept_most None (w ∷ g) = omega arith
+kept_most (Some x) g = omega arith
 
-table_size : (vs : List (Option ℕ)) → HasSize (table_part vs) 16 (16 * length vs)
-table_size vs =
-    let slots = members_size (given vs) in
-    record {
-      inline_is = omega (arith, length-count (length (given vs)));
-      outside_is = omega (arith, length-append (members_part (given vs)).inline (members_part (given vs)).outside, slots.inline_is, slots.outside_is, few_given vs);
-    }
+given_most : (vs : List (Option Member)) → slots_of (given vs) ≤ slots_of vs
+given_most [] = omega arith
+given_most (v ∷ vs) = omega (arith, kept_most v (given vs), given_most vs)
+
+table_size : (vs : List (Option Member)) → HasSize (table_part vs) 16 (slots_of vs)
+table_size vs = record {
+  inline_is = omega (arith, length-count (length (given vs)));
+  outside_is = omega (arith, length-append (members_part (given vs)).inline (members_part (given vs)).outside, members_size (given vs), given_most vs);
+}
 
 handle_size : (h : Option Handle) → HasSize (handle_part h) 16 0
 handle_size None = record { inline_is = omega (arith, length-number 4 0); outside_is = omega arith }
@@ -105,7 +122,7 @@ cell_size (pad size) blank small =
 cell_size (handle kind nullable) (held h) small = handle_size h
 cell_size text (seq xs) small = list_size xs
 cell_size vector (seq xs) small = list_size xs
-cell_size (table known) (members vs) small = table_size vs
+cell_size (table kinds) (members vs) small = table_size vs
 cell_size cell x small = no_size 16 (room_of x)
 
 cells_size : (cells : List Cell) (xs : List Item) → small_cells cells ≡ true → HasSize (spelling_of_all cells xs) (16 * length xs) (rooms_of xs)

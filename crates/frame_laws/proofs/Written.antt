@@ -10,10 +10,11 @@ use Rattle.fidl_names.specs.declared.methods.Handle.{Handle}
 use Rattle.fidl_wire.specs.declared.headers.Header.{Header}
 use Rattle.fidl_wire.specs.Grammar.{Part, nothing, join}
 use Rattle.fidl_wire.specs.Headers.{flags_of, header_bytes}
-use Rattle.fidl_wire.specs.Layout.{Cell, Item, Variant, Layout, Content, number, pad, handle, text, vector, table, num, blank, held, seq, members, empty, word, object, struct, union, fields, branch, variant_of}
-use Rattle.fidl_wire.specs.Numbers.{padding_after}
+use Rattle.io_messages.specs.Members.{numbers}
+use Rattle.fidl_wire.specs.Layout.{Member, a_number, a_vector, Cell, Item, Variant, Layout, Content, number, pad, handle, text, vector, table, num, blank, held, seq, members, empty, word, object, struct, union, fields, branch, variant_of}
+use Rattle.fidl_wire.specs.Numbers.{padding_after, padded}
 use Rattle.fidl_wire.specs.Reading.{present_list, present_word}
-use Rattle.fidl_wire.specs.Spelling.{body_bytes, body_handles, count_bytes, envelope_bytes, given, handle_part, inline_part, list_part_of, member_part, members_part, object_bytes, option_bytes, option_handles, spelling_of, spelling_of_all, table_part, variant_bytes, variant_handles}
+use Rattle.fidl_wire.specs.Spelling.{body_bytes, body_handles, count_bytes, envelope_bytes, given, handle_part, inline_part, kept, list_part_of, member_part, members_part, object_bytes, option_bytes, option_handles, spelling_of, spelling_of_all, table_part, variant_bytes, variant_handles}
 use Rattle.fidl_wire.specs.Written.{padded_bytes}
 use Rattle.journal_laws.proofs.Texts.{both_written, first_written, none_written}
 
@@ -90,13 +91,22 @@ abbrev pub IsShort : Handle → Type 0
 IsShort h = number_of_handle h < 2 ^ 32
 
 -- what is written of a text are bytes if the text's are, and what is written of a handle is a number if the handle's is
+abbrev pub IsOfBytes : Option Member → Type 0
+IsOfBytes None = Unit {0}
+IsOfBytes (Some (a_number x)) = Unit {0}
+IsOfBytes (Some (a_vector xs)) = AreBytes xs
+
+abbrev pub AreOfBytes : List (Option Member) → Type 0
+AreOfBytes [] = Unit {0}
+AreOfBytes (v ∷ vs) = IsOfBytes v × AreOfBytes vs
+
 abbrev pub IsWritable : Item → Type 0
 IsWritable (num x) = Unit {0}
 IsWritable blank = Unit {0}
 IsWritable (held None) = Unit {0}
 IsWritable (held (Some h)) = IsShort h
 IsWritable (seq xs) = AreBytes xs
-IsWritable (members values) = Unit {0}
+IsWritable (members values) = AreOfBytes values
 
 abbrev pub AreWritable : List Item → Type 0
 AreWritable [] = Unit {0}
@@ -129,17 +139,38 @@ inline_is bytes most h = record { inline = h; outside = none_written; handles = 
 list_is : (xs : List ℕ) (most : ℕ) → AreBytes xs → IsPart (list_part_of xs) most
 list_is xs most h = record { inline = count_written (length xs); outside = padded_written xs h; handles = All-nil IsShort; few = omega arith }
 
-member_is : (v : Option ℕ) → IsPart (member_part v) 0
-member_is None = inline_is (number_bytes 8 0) 0 (number_written 8 0)
-member_is (Some x) = record { inline = envelope_written 8 0 0; outside = number_written 8 x; handles = All-nil IsShort; few = omega arith }
+member_is : (v : Option Member) → IsOfBytes v → IsPart (member_part v) 0
+member_is None h = inline_is (number_bytes 8 0) 0 (number_written 8 0)
+member_is (Some (a_number x)) h = record { inline = envelope_written 8 0 0; outside = number_written 8 x; handles = All-nil IsShort; few = omega arith }
+member_is (Some (a_vector xs)) h = record {
+  inline = envelope_written (16 + padded (length xs)) 0 0;
+  outside = both_written (count_bytes (length xs)) (padded_bytes xs) (count_written (length xs)) (padded_written xs h);
+  handles = All-nil IsShort;
+  few = omega arith;
+}
 
-members_are : (vs : List (Option ℕ)) → IsPart (members_part vs) 0
-members_are [] = nothing_part
-members_are (v ∷ vs) = join_part (member_part v) (members_part vs) 0 0 (member_is v) (members_are vs)
+members_are : (vs : List (Option Member)) → AreOfBytes vs → IsPart (members_part vs) 0
+members_are [] h = nothing_part
+members_are (v ∷ vs) h = join_part (member_part v) (members_part vs) 0 0 (member_is v h.0) (members_are vs h.1)
 
-table_is : (vs : List (Option ℕ)) (most : ℕ) → IsPart (table_part vs) most
-table_is vs most =
-    let slots = members_are (given vs) in
+kept_of_bytes : (v : Option Member) (g : List (Option Member)) → IsOfBytes v → AreOfBytes g → AreOfBytes (kept v g)
+kept_of_bytes None [] h k = tt
+kept_of_bytes None (w ∷ g) h k = (h, k)
+kept_of_bytes (Some x) g h k = (h, k)
+
+given_of_bytes : (vs : List (Option Member)) → AreOfBytes vs → AreOfBytes (given vs)
+given_of_bytes [] h = tt
+given_of_bytes (v ∷ vs) h = kept_of_bytes v (given vs) h.0 (given_of_bytes vs h.1)
+
+-- members that are numbers
+pub numbers_of_bytes : (vs : List (Option ℕ)) → AreOfBytes (numbers vs)
+numbers_of_bytes [] = tt
+numbers_of_bytes (None ∷ vs) = (tt, numbers_of_bytes vs)
+numbers_of_bytes (Some x ∷ vs) = (tt, numbers_of_bytes vs)
+
+table_is : (vs : List (Option Member)) (most : ℕ) → AreOfBytes vs → IsPart (table_part vs) most
+table_is vs most h =
+    let slots = members_are (given vs) (given_of_bytes vs h) in
     record {
       inline = count_written (length (given vs));
       outside = both_written (members_part (given vs)).inline (members_part (given vs)).outside slots.inline slots.outside;
@@ -162,7 +193,7 @@ cell_is (pad size) blank fits = inline_is (replicate size 0) 1 (zeros_written si
 cell_is (handle kind nullable) (held h) fits = handle_is h fits
 cell_is text (seq xs) fits = list_is xs 1 fits
 cell_is vector (seq xs) fits = list_is xs 1 fits
-cell_is (table known) (members vs) fits = table_is vs 1
+cell_is (table kinds) (members vs) fits = table_is vs 1 fits
 cell_is _ _ fits = more_part nothing 0 1 (omega arith) nothing_part
 
 cells_are : (cells : List Cell) (xs : List Item) → AreWritable xs → IsPart (spelling_of_all cells xs) (length xs)

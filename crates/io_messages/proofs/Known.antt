@@ -1,15 +1,16 @@
 -- The method of a protocol with an ordinal, and that of a request that was read.
-use Rattle.std.proofs.Common.{◌≡◌, ℕ, ◌&&◌, ◌⊎◌, inl, inr, Bool, true, false, cond, nat_eq, find, List, [], ◌∷◌, Option, Some, None, IfSome, IsNone, refl, sym, ap, ◌∙◌, arith}
+use Rattle.std.proofs.Common.{◌≡◌, ℕ, ◌&&◌, ◌⊎◌, inl, inr, Bool, true, false, cond, nat_eq, find, List, [], ◌∷◌, Option, Some, None, option_map, IfSome, IsNone, refl, sym, ap, ◌∙◌, arith}
 use Rattle.std.proofs.lemmas.Bool.Decides.{nat_tests}
 use Rattle.fidl_names.specs.declared.methods.Handle.{Handle}
 use Rattle.fidl_names.specs.declared.methods.Method.{Method}
 use Rattle.fidl_names.specs.declared.methods.Method.TheVariants as method
-use Rattle.fidl_wire.specs.Layout.{Item}
+use Rattle.fidl_wire.specs.Layout.{Item, a_number}
 use Rattle.fidl_wire.specs.Names.{method_ordinal, MethodsHaveTheirOwn}
 use Rattle.io_messages.specs.Asked.{Asked, method_of}
 use Rattle.io_messages.specs.declared.protocols.Protocol.{Protocol}
 use Rattle.io_messages.specs.Protocols.{has_method, all_methods}
 use Rattle.io_messages.specs.Requests.{IsAsked, asked_from, method_in}
+use Rattle.io_messages.specs.Members.{number_of}
 use Rattle.io_messages.specs.Replies.{method_with}
 
 abbrev Among : Method → List Method → Type 0
@@ -175,3 +176,8 @@ method_read method.EchoString items = refl
 -- and so is that of bytes and handles which are a request
 pub method_asked : (bytes : List ℕ) (handles : List Handle) (txid : ℕ) (a : Asked) (r : IsAsked bytes handles txid a) → method_of a ≡ r.method
 method_asked bytes handles txid a r = ap method_of (sym r.fields_are) ∙ method_read r.method r.items
+
+-- the number of a member that is a number
+pub number_again : (v : Option ℕ) → number_of (option_map a_number v) ≡ v
+number_again None = refl
+number_again (Some x) = refl

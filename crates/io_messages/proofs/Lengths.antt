@@ -171,7 +171,7 @@ told-take zero ms = refl
 told-take (suc i) [] = refl
 told-take (suc i) (m ∷ ms) = ap (λ (vs : List (Option Member)). option_map told m ∷ vs) (told-take i ms)
 
-told-at : (ms : List (Option MemberNow)) (i : ℕ) → get_or (all_told ms) i None ≡ option_map told (get_or ms i None)
+pub told-at : (ms : List (Option MemberNow)) (i : ℕ) → get_or (all_told ms) i None ≡ option_map told (get_or ms i None)
 told-at [] i = refl
 told-at (m ∷ ms) zero = refl
 told-at (m ∷ ms) (suc i) = told-at ms i

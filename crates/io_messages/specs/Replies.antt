@@ -1,5 +1,5 @@
 -- The replies and the event as messages: what a reply says, and the layout of each shape.
-use Rattle.std.specs.Prelude.{ℕ, ◌==◌, Bool, true, false, List, [], ◌∷◌, Option, Some, find, map}
+use Rattle.std.specs.Prelude.{ℕ, ◌==◌, true, false, List, [], ◌∷◌, Option, Some, find, map}
 use Rattle.fidl_names.specs.declared.methods.Method.{Method}
 use Rattle.fidl_names.specs.declared.statuses.Status.{Status}
 use Rattle.fidl_wire.specs.declared.kinds.HandleKind.TheVariants as kinds

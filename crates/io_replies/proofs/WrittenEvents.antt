@@ -23,7 +23,7 @@ table_small =
     omega (arith, object_length (join (table_part []) nothing) 16 0 (cat (count_bytes 0) [] 16 0 (length-count 0) refl) refl, padded_none 16 refl)
 
 empty_fits : FitsVariant an_empty_table (members [] ∷ [])
-empty_fits = (((lit< tt, tt), tt), lit< tt, table_small, lit< tt)
+empty_fits = (((lit< tt, tt, refl), tt), lit< tt, table_small, lit< tt)
 
 event_as : (n : ℕ) (k : Protocol) → kind_with n ≡ Some k → FitsBody event_layout (branch n (members [] ∷ [])) → body_handles event_layout (branch n (members [] ∷ [])) ≡ [] → SpellingIsSpelled → HeadersAreRead →
     ReadsEvent (header_bytes (plain_header 0 event_ordinal) ++ body_bytes event_layout (branch n (members [] ∷ []))) k

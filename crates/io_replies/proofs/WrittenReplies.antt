@@ -1,5 +1,5 @@
 -- What is written for a reply is read.
-use Rattle.std.proofs.Common.{◌≡◌, ◌≢◌, ℕ, ◌+◌, ◌^◌, ◌<◌, ◌≤◌, Bool, true, false, cond, nat_eq, List, [], ◌∷◌, ◌++◌, length, Option, Some, None, Result, Ok, Err, inl, inr, refl, sym, ap, ◌∙◌, subst, lit<, arith}
+use Rattle.std.proofs.Common.{◌≡◌, ◌≢◌, ℕ, ◌+◌, ◌^◌, ◌<◌, ◌≤◌, Bool, true, false, cond, nat_eq, List, [], ◌∷◌, ◌++◌, length, Option, Some, None, option_map, Result, Ok, Err, inl, inr, refl, sym, ap, ◌∙◌, subst, lit<, arith}
 use Rattle.std.proofs.lemmas.Bool.Decides.{nat_tests}
 use Rattle.fidl_names.specs.declared.limits.TheConstants as limit
 use Rattle.fidl_names.specs.declared.methods.Handle.{Handle}
@@ -12,7 +12,12 @@ use Rattle.fidl_wire.specs.declared.faults.WireFault.{WireFault}
 use Rattle.fidl_wire.specs.Grammar.{join, nothing}
 use Rattle.fidl_wire.specs.Headers.{header_bytes}
 use Rattle.wire_laws.specs.Laws.{HeadersAreRead, SpellingIsRead, SpellingIsSpelled}
-use Rattle.fidl_wire.specs.Layout.{Content, struct, fields, branch, object, number, vector, num, blank, held, seq, members}
+use Rattle.fidl_wire.specs.declared.kinds.MemberKind.{MemberKind}
+use Rattle.fidl_wire.specs.declared.kinds.MemberKind.TheVariants as kind
+use Rattle.io_messages.specs.Members.{numbers}
+use Rattle.io_messages.proofs.Known.{number_again}
+use Rattle.io_replies.specs.Reading.{attributes_from}
+use Rattle.fidl_wire.specs.Layout.{Member, a_number, Content, struct, fields, branch, object, number, vector, num, blank, held, seq, members}
 use Rattle.fidl_wire.specs.Names.{method_ordinal}
 use Rattle.fidl_names.specs.Numbers.{number_bytes}
 use Rattle.fidl_wire.specs.Numbers.{padded}
@@ -158,25 +163,34 @@ number_fits : (x : ℕ) → x < 2 ^ 64 → FitsVariant (object (number 8 ∷ [])
 number_fits x h =
     ((h, tt), lit< tt, omega (arith, object_length (join (inline_part (number_bytes 8 x)) nothing) 8 0 (cat (number_bytes 8 x) [] 8 0 (length-number 8 x) refl) refl, padded_few 8), lit< tt)
 
-member_fits : (ks : List Bool) (v : Option ℕ) (vs : List (Option ℕ)) → IsLong v → FitMembers ks vs → FitMembers (true ∷ ks) (v ∷ vs)
+-- a number that may be absent
+abbrev a_known : MemberKind
+a_known = kind.Number false
+
+member_fits : (ks : List MemberKind) (v : Option ℕ) (vs : List (Option Member)) → IsLong v → FitMembers ks vs → FitMembers (a_known ∷ ks) (option_map a_number v ∷ vs)
 member_fits ks None vs h rest = rest
-member_fits ks (Some x) vs h rest = (refl, h, rest)
+member_fits ks (Some x) vs h rest = ((false, refl, h), rest)
 
-members_fit : (a : Attributes) → NumbersFit (answers.attributes a) → FitMembers known_attributes (attribute_members a)
+members_fit : (a : Attributes) → NumbersFit (answers.attributes a) → FitMembers known_attributes (numbers (attribute_members a))
 members_fit a h =
-    let links = member_fits (true ∷ []) a.link_count (a.id ∷ []) h.3 (member_fits [] a.id [] h.4 tt) in
-    let sizes = member_fits (false ∷ true ∷ true ∷ []) a.content_size (None ∷ a.link_count ∷ a.id ∷ []) h.2 links in
-    member_fits (true ∷ true ∷ false ∷ true ∷ true ∷ []) a.protocols (a.abilities ∷ a.content_size ∷ None ∷ a.link_count ∷ a.id ∷ []) h.0
-    (member_fits (true ∷ false ∷ true ∷ true ∷ []) a.abilities (a.content_size ∷ None ∷ a.link_count ∷ a.id ∷ []) h.1 sizes)
+    let links = member_fits (a_known ∷ []) a.link_count (numbers (a.id ∷ [])) h.3 (member_fits [] a.id [] h.4 tt) in
+    let sizes = member_fits (kind.Unknown ∷ a_known ∷ a_known ∷ []) a.content_size (numbers (None ∷ a.link_count ∷ a.id ∷ [])) h.2 links in
+    member_fits (a_known ∷ a_known ∷ kind.Unknown ∷ a_known ∷ a_known ∷ []) a.protocols (numbers (a.abilities ∷ a.content_size ∷ None ∷ a.link_count ∷ a.id ∷ [])) h.0
+    (member_fits (a_known ∷ kind.Unknown ∷ a_known ∷ a_known ∷ []) a.abilities (numbers (a.content_size ∷ None ∷ a.link_count ∷ a.id ∷ [])) h.1 sizes)
 
-attributes_fit : (a : Attributes) → NumbersFit (answers.attributes a) → FitsVariant (object attribute_cells) (members [] ∷ members (attribute_members a) ∷ [])
+attributes_fit : (a : Attributes) → NumbersFit (answers.attributes a) → FitsVariant (object attribute_cells) (members [] ∷ members (numbers (attribute_members a)) ∷ [])
 attributes_fit a h =
-    let none : (members_part (given (attribute_members a))).handles ++ [] ≡ [] = ap (λ (hs : List Handle). hs ++ []) (no_handles (given (attribute_members a))) in (
-      ((lit< tt, tt), ((lit< tt, members_fit a h), tt)),
+    let ms = numbers (attribute_members a) in
+    let none : (members_part (given ms)).handles ++ [] ≡ [] = ap (λ (hs : List Handle). hs ++ []) (no_handles (given ms)) in (
+      ((lit< tt, tt, refl), ((lit< tt, members_fit a h, refl), tt)),
       lit< tt,
       omega (arith, tables_most (attribute_members a) (omega arith)),
       subst (λ (hs : List Handle). length hs < 256 ^ 2) (sym none) (lit< tt),
     )
+
+-- and they are got back from their members
+attributes_again : (a : Attributes) → attributes_from (numbers (attribute_members a)) ≡ a
+attributes_again a = rw (number_again a.protocols, number_again a.abilities, number_again a.content_size, number_again a.link_count, number_again a.id) refl
 
 -- ---- the framework's error
 
@@ -215,5 +229,5 @@ written_reply law read again t (answers.settled m) way small has fits sizes =
 written_reply law read again t (answers.token n) way small has fits sizes =
     inr (is_written law again t method.GetToken shape.Token (fields (num 0 ∷ held (Some (Token n)) ∷ [])) (answers.token n) way small refl (lit< tt, (refl, tt)) refl)
 written_reply law read again t (answers.attributes a) way small has fits sizes =
-    inr (is_written law again t method.GetAttributes shape.Attributes (branch 1 (members [] ∷ members (attribute_members a) ∷ [])) (answers.attributes a) way small refl (lit< tt, attributes_fit a sizes) refl)
+    inr (is_written law again t method.GetAttributes shape.Attributes (branch 1 (members [] ∷ members (numbers (attribute_members a)) ∷ [])) (answers.attributes a) way small refl (lit< tt, attributes_fit a sizes) (ap (λ (b : Attributes). Ok (answers.attributes b)) (attributes_again a)))
 written_reply law read again t (answers.unknown ordinal) way small has fits sizes = inl (ordinal, refl, framework_written read again t ordinal way small sizes)

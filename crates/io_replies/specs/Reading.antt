@@ -13,7 +13,8 @@ use Rattle.fidl_wire.specs.declared.headers.Header.{Header}
 use Rattle.fidl_wire.specs.Cursor.{Cursor}
 use Rattle.fidl_wire.specs.Grammar.{IsSpelled}
 use Rattle.fidl_wire.specs.Headers.{header_of, fault}
-use Rattle.fidl_wire.specs.Layout.{Item, Content, struct, fields, branch, word, held, members}
+use Rattle.io_messages.specs.Members.{number_of as number_of_member}
+use Rattle.fidl_wire.specs.Layout.{Item, Content, Member, struct, fields, branch, word, held, members}
 use Rattle.fidl_wire.specs.Names.{method_ordinal, event_ordinal}
 use Rattle.fidl_wire.specs.Reading.{◌>>=◌, body_of, variant_items}
 use Rattle.io_messages.specs.declared.protocols.Protocol.{Protocol}
@@ -76,7 +77,7 @@ abbrev pub held_of : Item → Option Handle
 held_of (held h) = h
 held_of _ = None
 
-abbrev pub members_of : Item → List (Option ℕ)
+abbrev pub members_of : Item → List (Option Member)
 members_of (members values) = values
 members_of _ = []
 
@@ -87,11 +88,11 @@ abbrev pub given_token : Option Handle → Result Answered WireFault
 given_token None = Err (fault status_place Value)
 given_token (Some h) = Ok (token (number_of_handle h))
 
-abbrev pub member : ℕ → List (Option ℕ) → Option ℕ
-member k values = slice_index_or values k None
+abbrev pub member : ℕ → List (Option Member) → Option ℕ
+member k values = number_of_member (slice_index_or values k None)
 
 -- the attributes by the places of their members
-abbrev pub attributes_from : List (Option ℕ) → Attributes
+abbrev pub attributes_from : List (Option Member) → Attributes
 attributes_from values =
     record { protocols = member 0 values; abilities = member 1 values; content_size = member 2 values; link_count = member 4 values; id = member 5 values }
 

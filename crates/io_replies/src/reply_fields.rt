@@ -1,11 +1,13 @@
-ghost use Rattle.std.specs.Prelude.{◌≡◌, ℕ, List, Option, length, Ok, Err, Some, None, [], ◌∷◌, IfOk, IfErr};
-ghost use Rattle.fidl_wire.specs.Layout.{members};
+ghost use Rattle.std.specs.Prelude.{◌≡◌, ℕ, List, Option, length, Ok, Err, Some, None, [], ◌∷◌, option_map, IfOk, IfErr};
+ghost use Rattle.fidl_wire.specs.Layout.{Member as MemberOf, members};
+ghost use Rattle.fidl_wire.specs.Told.{told};
+ghost use Rattle.io_messages.specs.Members.{number_of};
 ghost use Rattle.fidl_wire.specs.Reading.{cells_at};
 ghost use Rattle.io_messages.specs.Replies.{attribute_cells};
 ghost use Rattle.io_replies.specs.Reading.{status_with, failed, answer_told, reply_fields, error_in, attributes_from};
 
 use fidl_names::{Handle, Method, Status};
-use fidl_wire::{Body, WireFault, WireWhat};
+use fidl_wire::{Body, Member, MemberKind, WireFault, WireWhat};
 use io_messages::{Attributes, ERROR, Reply, SUCCESS, Shape};
 
 /// Where the union of a result, or a reply's status, stands.
@@ -15,7 +17,17 @@ const STATUS_PLACE: usize = 16;
 const ERROR_PLACE: usize = 24;
 
 /// Protocols, abilities, the content's size, not the storage's, the count of links, and the id.
-const KNOWN_ATTRIBUTES: [bool; 6] = [true, true, true, false, true, true];
+const KNOWN_ATTRIBUTES: [MemberKind; 6] = [
+    NUMBER,
+    NUMBER,
+    NUMBER,
+    MemberKind::Unknown,
+    NUMBER,
+    NUMBER,
+];
+
+/// A number that may be absent.
+const NUMBER: MemberKind = MemberKind::Number { required: false };
 
 /// The fields of a method's reply of this shape, or their first fault. `Value` comes last.
 pub fn read_fields<'a>(
@@ -158,19 +170,30 @@ fn read_attributes<'a>(
 
 /// The two tables of the attributes.
 fn read_tables(body: &mut Body<'_, '_>) -> Result<Attributes, WireFault>
-    ensures value { IfOk result (λ a. (values : List (Option ℕ)) × (length values ≡ 6) × (a ≡ attributes_from values) × (cells_at attribute_cells body.old ≡ Ok (members [] ∷ members values ∷ [], body.new))) }
+    ensures value { IfOk result (λ a. (values : List (Option MemberOf)) × (length values ≡ 6) × (a ≡ attributes_from values) × (cells_at attribute_cells body.old ≡ Ok (members [] ∷ members values ∷ [], body.new))) }
     ensures fault { IfErr result (λ e. cells_at attribute_cells body.old ≡ Err e) }
 {
     body.table(&[], &mut [])?;
     let mut values = [None; 6];
     body.table(&KNOWN_ATTRIBUTES, &mut values)?;
     Ok(Attributes {
-        protocols: values[0],
-        abilities: values[1],
-        content_size: values[2],
-        link_count: values[4],
-        id: values[5],
+        protocols: number_in(values[0]),
+        abilities: number_in(values[1]),
+        content_size: number_in(values[2]),
+        link_count: number_in(values[4]),
+        id: number_in(values[5]),
     })
+}
+
+/// The number that a member is.
+fn number_in(member: Option<Member<'_>>) -> Option<u64>
+    ensures { result ≡ number_of (option_map told member.entry) }
+{
+    match member {
+        Some(Member::Number(number)) => Some(number),
+        Some(Member::Bytes(_)) => None,
+        None => None,
+    }
 }
 
 #[tactic(auto, unfolding(crate::specs::Reading::reply_fields))]

@@ -154,7 +154,7 @@ path_fits rest h = let short = h.short in omega arith
 onward_request : (flags : ℕ) (rest : List (List ℕ)) (object : ℕ) → IsPath (text_of rest) rest → flags < 256 ^ 8 → IsRequest (asks.open_path (text_of rest) flags None object)
 onward_request flags rest object h small = record {
   offset = tt;
-  fits = ((h.utf8, path_fits rest h), (small, ((lit< tt, tt), (refl, (tt, tt)))));
+  fits = ((h.utf8, path_fits rest h), (small, ((lit< tt, tt, refl), (refl, (tt, tt)))));
 }
 
 pub onward_reads : Below → (flags : ℕ) (rest : List (List ℕ)) (object : ℕ) → IsPath (text_of rest) rest → flags < 256 ^ 8 → object < 0x80000000 →

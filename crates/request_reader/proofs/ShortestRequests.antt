@@ -7,15 +7,17 @@ use Rattle.fidl_names.specs.declared.methods.Method.{Method}
 use Rattle.fidl_names.specs.declared.methods.Method.TheVariants as method
 use Rattle.fidl_names.specs.Numbers.{number_bytes}
 use Rattle.fidl_wire.specs.declared.kinds.HandleKind.TheVariants as kinds
-use Rattle.fidl_wire.specs.Grammar.{AreMembers, IsSpelled, Lays, Part, Spells}
+use Rattle.fidl_wire.specs.declared.kinds.MemberKind.TheVariants as kind
+use Rattle.fidl_wire.specs.Grammar.{AreMembers, IsMember, IsSpelled, Lays, Part, Spells}
 use Rattle.fidl_wire.specs.Headers.{header_bytes}
-use Rattle.fidl_wire.specs.Layout.{Cell, Item, struct, fields, number, pad, handle, text, vector, table, held, num, blank, seq, members}
+use Rattle.fidl_wire.specs.Layout.{Cell, Item, Member, a_number, a_vector, struct, fields, number, pad, handle, text, vector, table, held, num, blank, seq, members}
 use Rattle.fidl_wire.specs.Names.{method_ordinal}
 use Rattle.fidl_wire.specs.Numbers.{padded}
 use Rattle.fidl_wire.specs.Spelling.{spelling_of_all, object_bytes, body_bytes, count_bytes, table_part}
 use Rattle.fidl_wire.specs.Written.{padded_bytes}
 use Rattle.fidl_wire.proofs.Padded.{length-padded_bytes}
 use Rattle.io_messages.specs.Asked.{Asked, method_of}
+use Rattle.io_messages.specs.Members.{numbers, number_of}
 use Rattle.io_messages.specs.Requests.{IsAsked, request_cells, asked_from, items_of, item, num_of, seq_of, handle_of, held_endpoint, held_token, first_member, member_of, flags_member}
 use Rattle.io_messages.specs.Writing.{plain_header, request_bytes, request_body}
 use Rattle.io_messages.proofs.Known.{method_read}
@@ -31,8 +33,8 @@ abbrev is_asked_for : Cell → Bool
 is_asked_for (handle kinds.AnyHandle nullable) = false
 is_asked_for (handle kinds.AnEndpoint nullable) = cond nullable false true
 is_asked_for (handle kinds.AToken nullable) = cond nullable false true
-is_asked_for (table (true ∷ [])) = true
-is_asked_for (table known) = false
+is_asked_for (table (kind.Number false ∷ [])) = true
+is_asked_for (table kinds) = false
 is_asked_for cell = true
 
 abbrev again : Cell → Item → Item
@@ -42,18 +44,23 @@ again (handle kinds.AToken nullable) x = held_token (handle_of x)
 again (handle kind nullable) x = held_endpoint (handle_of x)
 again text x = seq (seq_of x)
 again vector x = seq (seq_of x)
-again (table known) x = members (member_of x ∷ [])
+again (table kinds) x = members (numbers (member_of x ∷ []))
 
-no_members : (vs : List (Option ℕ)) (n : ℕ) (p : Part) → AreMembers [] vs n p → vs ≡ []
+no_members : (vs : List (Option Member)) (n : ℕ) (p : Part) → AreMembers [] vs n p → vs ≡ []
 no_members vs zero p h = h.0
 no_members vs (suc n) p (v, ws, first, rest, same, member, others, joined) = same ∙ no_members ws n rest others
 
-one_member : (vs : List (Option ℕ)) (n : ℕ) (p : Part) → AreMembers (true ∷ []) vs n p → first_member vs ∷ [] ≡ vs
-one_member vs zero p h = ap (λ (ws : List (Option ℕ)). first_member ws ∷ []) h.0 ∙ sym h.0
+one_again : (v : Option Member) (p : Part) → IsMember (kind.Number false) v p → numbers (number_of v ∷ []) ≡ v ∷ []
+one_again None p h = refl
+one_again (Some (a_number x)) p h = refl
+one_again (Some (a_vector xs)) p h = let wrong = h.1 in absurd (cc)
+
+one_member : (vs : List (Option Member)) (n : ℕ) (p : Part) → AreMembers (kind.Number false ∷ []) vs n p → numbers (number_of (first_member vs) ∷ []) ≡ vs
+one_member vs zero p h = ap (λ (ws : List (Option Member)). numbers (number_of (first_member ws) ∷ [])) h.0 ∙ sym h.0
 one_member vs (suc n) p (v, ws, first, rest, same, member, others, joined) =
     let none = no_members ws n rest others in
-    let one : vs ≡ v ∷ [] = same ∙ ap (λ (us : List (Option ℕ)). v ∷ us) none in
-    ap (λ (us : List (Option ℕ)). first_member us ∷ []) one ∙ sym one
+    let one : vs ≡ v ∷ [] = same ∙ ap (λ (us : List (Option Member)). v ∷ us) none in
+    ap (λ (us : List (Option Member)). numbers (number_of (first_member us) ∷ [])) one ∙ one_again v first member ∙ sym one
 
 number_again : (size : ℕ) (x : Item) (p : Part) → Spells (number size) x p → num (num_of x) ≡ x
 number_again size (num n) p s = refl
@@ -83,8 +90,8 @@ vector_again : (x : Item) (p : Part) → Spells vector x p → seq (seq_of x) �
 vector_again (seq xs) p s = refl
 vector_again _ p s = absurd s
 
-table_again : (x : Item) (p : Part) → Spells (table (true ∷ [])) x p → members (member_of x ∷ []) ≡ x
-table_again (members vs) p s = ap (λ (us : List (Option ℕ)). members us) (one_member vs s.count s.slots s.members_are)
+table_again : (x : Item) (p : Part) → Spells (table (kind.Number false ∷ [])) x p → members (numbers (member_of x ∷ [])) ≡ x
+table_again (members vs) p s = ap (λ (us : List (Option Member)). members us) (one_member vs s.count s.slots s.members_are)
 table_again _ p s = absurd s
 
 item_again : (cell : Cell) (x : Item) (p : Part) → is_asked_for cell ≡ true → Spells cell x p → again cell x ≡ x
@@ -97,7 +104,7 @@ item_again (handle kinds.AToken false) x p h s = token_again x p s
 item_again (handle kinds.AToken true) x p h s = absurd (cc)
 item_again text x p h s = text_again x p s
 item_again vector x p h s = vector_again x p s
-item_again (table (true ∷ [])) x p h s = table_again x p s
+item_again (table (kind.Number false ∷ [])) x p h s = table_again x p s
 item_again (table _) x p h s = absurd (cc)
 
 abbrev all_again : ℕ → List Cell → List Item → List Item
@@ -152,19 +159,19 @@ second_alike : (a x y : List ℕ) → length x ≡ length y → length (a ++ (x 
 second_alike a x y same =
     omega (arith, length-append a (x ++ []), length-append a (y ++ []), length-append x [], length-append y [])
 
-none_least : (xs : List ℕ) (x : ℕ) → size (request_cells method.Unlink) (seq xs ∷ members (None ∷ []) ∷ []) ≤ size (request_cells method.Unlink) (seq xs ∷ members (Some x ∷ []) ∷ [])
+none_least : (xs : List ℕ) (x : ℕ) → size (request_cells method.Unlink) (seq xs ∷ members (numbers (None ∷ [])) ∷ []) ≤ size (request_cells method.Unlink) (seq xs ∷ members (numbers (Some x ∷ [])) ∷ [])
 none_least xs x =
-    let there : List ℕ = (table_part (Some x ∷ [])).outside in
-    object_least (spelling_of_all (request_cells method.Unlink) (seq xs ∷ members (None ∷ []) ∷ [])) (spelling_of_all (request_cells method.Unlink) (seq xs ∷ members (Some x ∷ []) ∷ []))
+    let there : List ℕ = (table_part (numbers (Some x ∷ []))).outside in
+    object_least (spelling_of_all (request_cells method.Unlink) (seq xs ∷ members (numbers (None ∷ [])) ∷ [])) (spelling_of_all (request_cells method.Unlink) (seq xs ∷ members (numbers (Some x ∷ [])) ∷ []))
     (second_alike (count_bytes (length xs)) (count_bytes 0) (count_bytes 1) (length-count 0 ∙ sym (length-count 1)))
     (omega (arith, length-append (padded_bytes xs) [], length-append (padded_bytes xs) (there ++ [])))
 
 -- so flags of 0, which have none
-flags_least : (xs : List ℕ) (v : Option ℕ) → size (request_cells method.Unlink) (seq xs ∷ members (flags_member (unwrap_or v 0) ∷ []) ∷ []) ≤ size (request_cells method.Unlink) (seq xs ∷ members (v ∷ []) ∷ [])
+flags_least : (xs : List ℕ) (v : Option ℕ) → size (request_cells method.Unlink) (seq xs ∷ members (numbers (flags_member (unwrap_or v 0) ∷ [])) ∷ []) ≤ size (request_cells method.Unlink) (seq xs ∷ members (numbers (v ∷ [])) ∷ [])
 flags_least xs None = omega arith
 flags_least xs (Some x) = by (nat_eq x 0)
   where
-    by : (b : Bool) → size (request_cells method.Unlink) (seq xs ∷ members (cond b None (Some x) ∷ []) ∷ []) ≤ size (request_cells method.Unlink) (seq xs ∷ members (Some x ∷ []) ∷ [])
+    by : (b : Bool) → size (request_cells method.Unlink) (seq xs ∷ members (numbers (cond b None (Some x) ∷ [])) ∷ []) ≤ size (request_cells method.Unlink) (seq xs ∷ members (numbers (Some x ∷ [])) ∷ [])
     by true = none_least xs x
     by false = omega arith
 

@@ -1,5 +1,5 @@
 -- What is written for a request is read.
-use Rattle.std.proofs.Common.{◌≡◌, ℕ, ◌^◌, ◌<◌, true, nat_eq, cond, Bool, false, Some, None, unwrap_or, refl, ap, arith}
+use Rattle.std.proofs.Common.{◌≡◌, ℕ, ◌^◌, ◌<◌, true, nat_eq, cond, Bool, false, Option, Some, None, unwrap_or, refl, ap, ◌∙◌, arith}
 use Rattle.std.specs.Int.{w64}
 use Rattle.std.proofs.lemmas.Int.{to_z-of_z}
 use Rattle.std.proofs.lemmas.Bool.Decides.{nat_tests}
@@ -14,6 +14,7 @@ use Rattle.io_messages.specs.Protocols.{has_method}
 use Rattle.io_messages.specs.Requests.{IsAsked, Reads, has_txid, request_cells, items_of, asked_from, flags_member}
 use Rattle.io_messages.specs.Shapes.{is_one_way}
 use Rattle.io_messages.specs.Writing.{plain_header, request_bytes, request_body, request_handles, HasOffset, IsRequest}
+use Rattle.io_messages.proofs.Known.{number_again}
 use Rattle.fidl_wire.proofs.Rows.{small_ordinal}
 use Rattle.wire_laws.proofs.ReadHeaders.{length-header}
 
@@ -31,13 +32,13 @@ request_again asks.close h = refl
 request_again asks.query h = refl
 request_again (asks.get_attributes bits) h = refl
 request_again asks.sync h = refl
-request_again (asks.open_path path flags attributes object) h = refl
+request_again (asks.open_path path flags attributes object) h = ap (λ (v : Option ℕ). asks.open_path path flags v object) (number_again attributes)
 request_again (asks.read_dirents max_bytes) h = refl
 request_again asks.rewind h = refl
 request_again asks.get_token h = refl
 request_again (asks.rename src token dst) h = refl
 request_again (asks.link src token dst) h = refl
-request_again (asks.unlink name flags) h = ap (λ (n : ℕ). asks.unlink name n) (flags_again flags)
+request_again (asks.unlink name flags) h = ap (λ (n : ℕ). asks.unlink name n) (ap (λ (v : Option ℕ). unwrap_or v 0) (number_again (flags_member flags)) ∙ flags_again flags)
 request_again (asks.watch mask options watcher) h = refl
 request_again (asks.read count) h = refl
 request_again (asks.read_at count offset) h = refl

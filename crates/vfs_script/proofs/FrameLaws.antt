@@ -20,6 +20,7 @@ use Rattle.fidl_wire.specs.Layout.{members, seq}
 use Rattle.fidl_wire.specs.Spelling.{spelling_of_all}
 use Rattle.io_messages.specs.Asked.{Asked}
 use Rattle.io_messages.specs.Asked as asks
+use Rattle.io_messages.specs.Members.{numbers}
 use Rattle.io_messages.specs.Requests.{flags_member, request_cells}
 use Rattle.io_messages.specs.Writing.{request_handles}
 use Rattle.vfs_script.specs.declared.verbs.Verb.{Verb}
@@ -130,7 +131,7 @@ names_sound asking has e src t dst =
     bind IsSound (number_in 32 e) _ (λ endpoint is. bind IsSound (number_in 32 t) _ (λ token low. (fits_field 32 e endpoint is, has src token dst (fits_field 32 t token low))))
 
 -- the flags of an Unlink carry none
-flags_alone : (name : List ℕ) (flags : Option ℕ) → AreHandles (map number_of_handle ((spelling_of_all (request_cells method.Unlink) (seq name ∷ members (flags ∷ []) ∷ [])).handles))
+flags_alone : (name : List ℕ) (flags : Option ℕ) → AreHandles (map number_of_handle ((spelling_of_all (request_cells method.Unlink) (seq name ∷ members (numbers (flags ∷ [])) ∷ [])).handles))
 flags_alone name None = no_handles
 flags_alone name (Some flags) = no_handles
 

@@ -1,11 +1,11 @@
-use Rattle.std.proofs.Common.{◌≡◌, ℕ, ◌+◌, List, ◌++◌, Option, Some, None, option_map, length, ap, ◌∙◌, sym, append_assoc, length-append, arith}
+use Rattle.std.proofs.Common.{◌≡◌, ℕ, ◌+◌, List, ◌++◌, Option, Some, option_map, length, ap, ◌∙◌, sym, append_assoc, arith}
 use Rattle.fidl_names.specs.Numbers.{number_bytes}
 use Rattle.fidl_wire.specs.declared.kinds.Member.{Member}
 use Rattle.fidl_wire.specs.declared.kinds.Member.TheVariants as now
 use Rattle.fidl_wire.specs.Numbers.{padded}
 use Rattle.fidl_wire.specs.Spelling.{member_part}
 use Rattle.fidl_wire.specs.Told.{told}
-use Rattle.io_messages.proofs.Lengths.{length-slot, length-number, envelope_is, list_envelope}
+use Rattle.io_messages.proofs.Lengths.{length-slot, envelope_is, list_envelope}
 use Rattle.io_messages.proofs.fields.put_envelope.Goals as goal
 
 pub put_u64-requires : goal.put_u64-requires

@@ -1,4 +1,4 @@
-use Rattle.std.proofs.Common.{List, Option, None, option_map, length, drop, length-append, refl, ap, arith}
+use Rattle.std.proofs.Common.{List, Option, None, option_map, length-append, refl, arith}
 use Rattle.fidl_names.specs.declared.limits.TheConstants as limit
 use Rattle.fidl_wire.specs.declared.kinds.Member.{Member}
 use Rattle.fidl_wire.specs.Spelling.{member_part, members_part}

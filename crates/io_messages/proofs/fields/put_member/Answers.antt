@@ -1,4 +1,4 @@
-use Rattle.std.proofs.Common.{◌≡◌, ℕ, Option, Some, option_map, length, ap, ◌∙◌, arith}
+use Rattle.std.proofs.Common.{◌≡◌, Option, Some, option_map, length, ap, ◌∙◌, arith}
 use Rattle.fidl_wire.specs.declared.kinds.Member.{Member}
 use Rattle.fidl_wire.specs.declared.kinds.Member.TheVariants as now
 use Rattle.fidl_wire.specs.Spelling.{member_part}

@@ -1,4 +1,4 @@
-use Rattle.std.proofs.Common.{◌≡◌, ◌++◌, length, take, ap, length-append, arith}
+use Rattle.std.proofs.Common.{length, take, ap, length-append, arith}
 use Rattle.fidl_wire.specs.Spelling.{members_part}
 use Rattle.fidl_wire.specs.Told.{all_told}
 use Rattle.io_messages.proofs.Lengths.{members_eight}

@@ -1,8 +1,7 @@
-use Rattle.std.proofs.Common.{◌≡◌, ℕ, ◌++◌, List, [], ◌∷◌, Option, None, option_map, length, lit≤, refl, sym, ap, ◌∙◌, arith}
+use Rattle.std.proofs.Common.{◌≡◌, ℕ, ◌++◌, List, [], ◌∷◌, Option, None, length, lit≤, refl, sym, ap, ◌∙◌, arith}
 use Rattle.fidl_names.specs.Numbers.{number_bytes}
 use Rattle.fidl_wire.specs.Layout.{Member}
 use Rattle.fidl_wire.specs.Spelling.{envelope_bytes, given, members_part}
-use Rattle.fidl_wire.specs.Told.{told}
 use Rattle.io_messages.specs.Fields.{tables_object}
 use Rattle.io_messages.specs.Members.{numbers}
 use Rattle.io_messages.specs.ReplyWriting.{attribute_members}

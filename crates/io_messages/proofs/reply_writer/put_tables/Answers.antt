@@ -1,4 +1,4 @@
-use Rattle.std.proofs.Common.{ℕ, ◌%◌, [], length, refl, ap, arith}
+use Rattle.std.proofs.Common.{ℕ, ◌%◌, [], length, refl, ap}
 use Rattle.fidl_wire.specs.Spelling.{given, count_bytes}
 use Rattle.fidl_wire.specs.Told.{all_told}
 use Rattle.io_messages.proofs.Lengths.{length-count, no_handles}
