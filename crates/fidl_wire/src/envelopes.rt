@@ -156,7 +156,11 @@ fn number(message: &[u8], at: usize, outside: Outside) -> Result<(u64, Outside),
 }
 
 /// A member that is a vector of bytes: the part of the message that has them.
-fn bytes<'a>(message: &'a [u8], at: usize, outside: Outside) -> Result<(&'a [u8], Outside), WireFault>
+fn bytes<'a>(
+    message: &'a [u8],
+    at: usize,
+    outside: Outside,
+) -> Result<(&'a [u8], Outside), WireFault>
     requires envelope { at + 8 ≤ length message.now }
     requires placed { IsPlaced (length message.now) outside }
     ensures value { IfOk result (λ r. bytes_member at message.now outside ≡ Ok (Some (a_vector r.0.now), r.1)) }

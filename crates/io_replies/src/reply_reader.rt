@@ -8,7 +8,9 @@ ghost use Rattle.io_replies.specs.Reading.{IsPayloadOf, ReadsReply, ReadsEvent, 
 use crate::reply_fields::read_fields;
 use fidl_names::{Handle, Method};
 use fidl_wire::{Body, Header, Ordinals, WireFault, WireWhat};
-use io_messages::{FRAMEWORK_ENVELOPE, FRAMEWORK_ORDINAL, ORDINAL_PLACE, Protocol, Reply, kind_with, shape_of};
+use io_messages::{
+    FRAMEWORK_ENVELOPE, FRAMEWORK_ORDINAL, ORDINAL_PLACE, Protocol, Reply, kind_with, shape_of,
+};
 
 /// The reply that bytes and handles are, and its transaction id.
 ///

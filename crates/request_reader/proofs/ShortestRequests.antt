@@ -1,5 +1,5 @@
 -- What is written for a request is no longer than any bytes that are that request.
-use Rattle.std.proofs.Common.{◌≡◌, ℕ, zero, suc, ◌+◌, ◌≤◌, nat_eq, cond, Bool, true, false, List, [], ◌∷◌, ◌++◌, length, replicate, Option, Some, None, unwrap_or, refl, sym, ap, ◌∙◌, subst, length-append, length-drop, append_assoc, arith}
+use Rattle.std.proofs.Common.{◌≡◌, ℕ, zero, suc, ◌≤◌, nat_eq, cond, Bool, true, false, List, [], ◌∷◌, ◌++◌, length, replicate, Option, Some, None, unwrap_or, refl, sym, ap, ◌∙◌, length-append, length-drop, append_assoc, arith}
 use Rattle.std.specs.Int.{w64, cast_unsigned, cast_signed}
 use Rattle.fidl_names.specs.declared.methods.Handle.{Handle}
 use Rattle.fidl_names.specs.declared.methods.Handle.TheVariants.{Endpoint, Token}
@@ -8,7 +8,7 @@ use Rattle.fidl_names.specs.declared.methods.Method.TheVariants as method
 use Rattle.fidl_names.specs.Numbers.{number_bytes}
 use Rattle.fidl_wire.specs.declared.kinds.HandleKind.TheVariants as kinds
 use Rattle.fidl_wire.specs.declared.kinds.MemberKind.TheVariants as kind
-use Rattle.fidl_wire.specs.Grammar.{AreMembers, IsMember, IsSpelled, Lays, Part, Spells}
+use Rattle.fidl_wire.specs.Grammar.{AreMembers, IsMember, Lays, Part, Spells}
 use Rattle.fidl_wire.specs.Headers.{header_bytes}
 use Rattle.fidl_wire.specs.Layout.{Cell, Item, Member, a_number, a_vector, struct, fields, number, pad, handle, text, vector, table, held, num, blank, seq, members}
 use Rattle.fidl_wire.specs.Names.{method_ordinal}

@@ -124,11 +124,7 @@ fn take_names<'a>(body: &mut Body<'a, '_>) -> Result<(&'a [u8], u32, &'a [u8]), 
     Ok((src, token, dst))
 }
 
-#[tactic(
-    auto,
-    using(io_messages::proofs::Known::number_again),
-    unfolding(crate::specs::Steps::asked_at)
-)]
+#[tactic(auto, using(io_messages::proofs::Known::number_again), unfolding(crate::specs::Steps::asked_at))]
 fn take_open<'a>(body: &mut Body<'a, '_>) -> Result<Request<'a>, WireFault>
     requires { Begins 64 body.old }
     ensures value { IfOk result (λ r. asked_at Method.OpenPath body.old ≡ Ok (asked r, body.new)) }
@@ -148,11 +144,7 @@ fn take_open<'a>(body: &mut Body<'a, '_>) -> Result<Request<'a>, WireFault>
     })
 }
 
-#[tactic(
-    auto,
-    using(io_messages::proofs::Known::number_again),
-    unfolding(crate::specs::Steps::asked_at)
-)]
+#[tactic(auto, using(io_messages::proofs::Known::number_again), unfolding(crate::specs::Steps::asked_at))]
 fn take_unlink<'a>(body: &mut Body<'a, '_>) -> Result<Request<'a>, WireFault>
     requires { Begins 48 body.old }
     ensures value { IfOk result (λ r. asked_at Method.Unlink body.old ≡ Ok (asked r, body.new)) }

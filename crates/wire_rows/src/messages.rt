@@ -17,7 +17,9 @@ use crate::messages::reply_rows::REPLIES;
 use crate::messages::request_rows::REQUESTS;
 use fidl_names::{Handle, Method, Status};
 use fidl_wire::{Body, Header, Ordinals, Out, WireFault, ordinal, read_epitaph};
-use io_messages::{Protocol, Reply, Request, Shape, is_one_way, shape_of, write_event, write_reply, write_request};
+use io_messages::{
+    Protocol, Reply, Request, Shape, is_one_way, shape_of, write_event, write_reply, write_request,
+};
 use io_replies::{read_event, read_reply};
 use request_reader::read_request;
 use std::alloc::Global;
@@ -54,6 +56,14 @@ impl Table for Messages {
 /// The one field of a message behind its header, a number of four bytes with a sign.
 fn read_status(bytes: &[u8]) -> Result<i32, WireFault> {
     Body::new(bytes, &[], 4)?.get_i32()
+}
+
+/// The one field of a message behind its header, a table whose member 1 is bytes that have to be there.
+fn read_member(bytes: &[u8]) -> Result<&[u8], WireFault> {
+    let mut body = Body::new(bytes, &[], 16)?;
+    let member = body.table_bytes()?;
+    body.finish()?;
+    Ok(member)
 }
 
 /// The one field of a message behind its header, a handle that may be absent.
@@ -102,6 +112,8 @@ impl Messages {
             row.says(alloc, 3, &read_epitaph(bytes))
         } else if row.is(1, "status") {
             row.says(alloc, 3, &read_status(bytes))
+        } else if row.is(1, "member") {
+            row.says(alloc, 3, &read_member(bytes))
         } else if row.is(1, "handle") {
             is_handle(alloc, row, bytes)
         } else if row.is(1, "ordinal") {

@@ -1,6 +1,7 @@
 //! Outside values of headers, epitaphs, handles and ordinals.
 
-/// A name, `header`, `epitaph` or `status` (of an epitaph, as its one field), the bytes, and what is read; a name, `handle`, the bytes, the
+/// A name, `header`, `epitaph`, `status` (of an epitaph, as its one field) or `member` (of a table whose member 1 is bytes that have to be
+/// there), the bytes, and what is read; a name, `handle`, the bytes, the
 /// handles, and what is read; a full name, `ordinal`, and the ordinal's digits; or a name, `method`, an ordinal, its method, and `event` where it
 /// is the event's.
 pub const HEADS: &[u8] = b"
@@ -48,6 +49,22 @@ handle_token | handle | [00*4]02000001[ff*8]ffffffff[00*4] | 2147483648 | Ok(Som
 handle_absent | handle | [00*4]02000001[ff*8][00*8] | - | Ok(None)
 handle_neither | handle | [00*4]02000001[ff*8]01[00*7] | 7 | Err(WireFault { at: 16, what: Presence })
 handle_none_left | handle | [00*4]02000001[ff*8]ffffffff[00*4] | - | Err(WireFault { at: 16, what: Handles })
+table_bytes_target | member | 0600000002000001f33198e8a52e2c7401[00*7][ff*8]18[00*7]03[00*7][ff*8]662f78[00*5] | Ok([102, 47, 120])
+table_bytes_empty_target | member | 0600000002000001f33198e8a52e2c7401[00*7][ff*8]10[00*15][ff*8] | Ok([])
+table_bytes_skipped_member | member | 0600000002000001f33198e8a52e2c7402[00*7][ff*8]18[00*7]08[00*7]01[00*7][ff*8]78[00*7][ff*8] | Ok([120])
+table_bytes_no_member | member | 0600000002000001f33198e8a52e2c74[00*8][ff*8] | Err(WireFault { at: 16, what: Envelope })
+table_bytes_absent_member | member | 0600000002000001f33198e8a52e2c7401[00*7][ff*8][00*8] | Err(WireFault { at: 16, what: Envelope })
+table_bytes_other_member_alone | member | 0600000002000001f33198e8a52e2c7402[00*7][ff*8][00*14]0100 | Err(WireFault { at: 16, what: Envelope })
+table_bytes_no_member_before_trailing | member | 0600000002000001f33198e8a52e2c74[00*8][ff*8][00*8] | Err(WireFault { at: 16, what: Envelope })
+table_bytes_other_member_wrong_first | member | 0600000002000001f33198e8a52e2c7402[00*7][ff*8][00*8]04[00*7] | Err(WireFault { at: 40, what: Envelope })
+table_bytes_member_inlined | member | 0600000002000001f33198e8a52e2c7401[00*7][ff*8]04[00*5]0100 | Err(WireFault { at: 32, what: Envelope })
+table_bytes_vector_presence | member | 0600000002000001f33198e8a52e2c7401[00*7][ff*8]10[00*23] | Err(WireFault { at: 40, what: Presence })
+table_bytes_vector_count | member | 0600000002000001f33198e8a52e2c7401[00*7][ff*8]10[00*7]01[00*7][ff*8] | Err(WireFault { at: 40, what: Count })
+table_bytes_vector_padding | member | 0600000002000001f33198e8a52e2c7401[00*7][ff*8]18[00*7]03[00*7][ff*8]662f78[00*4]01 | Err(WireFault { at: 63, what: Padding })
+table_bytes_byte_count_too_small | member | 0600000002000001f33198e8a52e2c7401[00*7][ff*8]10[00*7]03[00*7][ff*8]662f78[00*5] | Err(WireFault { at: 32, what: Envelope })
+table_bytes_struct_past_the_end | member | 0600000002000001f33198e8a52e2c7401[00*7][ff*8]08[00*15] | Err(WireFault { at: 32, what: Envelope })
+table_bytes_presence_zero | member | 0600000002000001f33198e8a52e2c74[00*16] | Err(WireFault { at: 16, what: Presence })
+table_bytes_bytes_over | member | 0600000002000001f33198e8a52e2c7401[00*7][ff*8]18[00*7]03[00*7][ff*8]662f78[00*13] | Err(WireFault { at: 64, what: Trailing })
 zero | method | 0 | None | -
 five | method | 5 | None | -
 the_top_bit | method | 0x8000000000000000 | None | -
