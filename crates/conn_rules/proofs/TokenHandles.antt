@@ -1,14 +1,16 @@
 -- The handles of a reply are those of the token that it gives.
 use Rattle.std.proofs.Common.{◌≡◌, ◌∙◌, ℕ, List, [], ◌∷◌, Option, Some, None, refl, append-nil}
 use Rattle.fidl_wire.specs.Layout.{branch, fields, num}
-use Rattle.fidl_wire.specs.Spelling.{body_handles, members_part}
+use Rattle.fidl_wire.specs.Spelling.{body_handles}
 use Rattle.fidl_wire.specs.Spelling as spelling
 use Rattle.io_messages.specs.Replies.{Answered, done, fails, counted, payload, settled, token, attributes, unknown}
 use Rattle.io_messages.specs.declared.replies.Attributes.{Attributes}
 use Rattle.io_messages.specs.declared.replies.Shape.{Shape}
 use Rattle.io_messages.specs.declared.replies.Shape.TheVariants as shape
 use Rattle.io_messages.specs.ReplyWriting.{attribute_members, carried, failure, layout_of, reply_handles, status_word}
+use Rattle.io_messages.specs.Members.{numbers}
 use Rattle.io_messages.specs.Shapes.{shape_of}
+use Rattle.io_messages.proofs.Lengths.{no_handles}
 use Rattle.conn_rules.specs.Laws.{HandlesAreTokens, tokens_in}
 
 done_bare : (o : Option Shape) → body_handles (layout_of o) (branch 1 []) ≡ []
@@ -71,13 +73,8 @@ settled_bare (Some shape.Settled) = refl
 settled_bare (Some shape.Token) = refl
 settled_bare (Some shape.Attributes) = refl
 
-members_bare : (vs : List (Option ℕ)) → (members_part vs).handles ≡ []
-members_bare [] = refl
-members_bare (None ∷ vs) = members_bare vs
-members_bare (Some x ∷ vs) = members_bare vs
-
 attributes_bare : (a : Attributes) → reply_handles (attributes a) ≡ []
-attributes_bare a = append-nil _ ∙ members_bare (spelling.given (attribute_members a))
+attributes_bare a = append-nil _ ∙ no_handles (spelling.given (numbers (attribute_members a)))
 
 pub handles_of_reply : (a : Answered) → reply_handles a ≡ tokens_in a
 handles_of_reply (done m) = done_bare (shape_of m)
