@@ -6,7 +6,10 @@ mod streams;
 
 use crate::link::rows::ROWS;
 use link_admission::{AdmitFault, Endpoints};
-use link_frames::{FrameKind, FrameReason, FrameRoom, MAX_FRAME_LEN, Outbox, Reading, Refusal, Side, frame_at, spelled_len, write_frame};
+use link_frames::{
+    FrameKind, FrameReason, FrameRoom, MAX_FRAME_LEN, Outbox, Reading, Refusal, Side, frame_at,
+    spelled_len, write_frame,
+};
 use std::alloc::{AllocError, Global};
 use std::test::Fail;
 use test_rows::{Row, Table, all_hold};

@@ -13,7 +13,9 @@ ghost use Rattle.io_messages.specs.ReplyWriting.{HasReply, PayloadFits, CanFail,
 use crate::fields::{Field, number_member, put_count, put_object, put_padded, size_of};
 use crate::kinds::branch_of_kind;
 use crate::protocols::Protocol;
-use crate::replies::{Attributes, ERROR, FRAMEWORK_ENVELOPE, FRAMEWORK_ORDINAL, Reply, SUCCESS, Shape, shape_of};
+use crate::replies::{
+    Attributes, ERROR, FRAMEWORK_ENVELOPE, FRAMEWORK_ORDINAL, Reply, SUCCESS, Shape, shape_of,
+};
 use fidl_names::{Handle, MAX_BYTES, Method, Status, long_array, word_array};
 use fidl_wire::{Header, Member, Ordinals, Out, padding_after};
 
