@@ -12,8 +12,8 @@ use Rattle.conn_rules.specs.Answers.{Answer, replies, closes, binds, watches, fo
 use Rattle.conn_rules.specs.Opens.{is_full}
 use Rattle.vfs_journal.specs.Outcomes as outcomes
 use Rattle.vfs_journal.specs.Outcomes.{Asker, token_of}
-use Rattle.vfs_server.specs.declared.given.Given.{Given}
-use Rattle.vfs_server.specs.declared.given.Given.TheVariants as given
+use Rattle.vfs_server.specs.Given.{Given}
+use Rattle.vfs_server.specs.Given as given
 use Rattle.vfs_server.specs.Serving.{HasMount}
 use Rattle.vfs_server.specs.Steps.{BindsBy, GoesOnBehind, IsGiven}
 use Rattle.vfs_server.proofs.Acting.{CanAnswer, CanBeWatched}

@@ -32,8 +32,8 @@ use Rattle.vfs_journal.specs.Serving.{Moment, fault_answer, fault_txid, object_o
 use Rattle.vfs_server.specs.declared.asking.Asking.{Asking}
 use Rattle.vfs_server.specs.declared.deed.Deed.{Deed}
 use Rattle.vfs_server.specs.declared.deed.Deed.TheVariants as deeds
-use Rattle.vfs_server.specs.declared.given.Given.{Given}
-use Rattle.vfs_server.specs.declared.given.Given.TheVariants as given
+use Rattle.vfs_server.specs.Given.{Given}
+use Rattle.vfs_server.specs.Given as given
 use Rattle.vfs_server.specs.Effects.{Effects, effects_done, no_effects}
 use Rattle.vfs_server.specs.Kept.{Tokens}
 use Rattle.vfs_server.specs.Servers.{bound_with}
@@ -313,6 +313,10 @@ ok_map P Q (Err e) f h = tt
 pub ok_both : {X E : Type 0} (P Q : X → Type 0) (r : Result X E) → IfOk r P → IfOk r Q → IfOk r (λ x. P x × Q x)
 ok_both P Q (Ok x) p q = (p, q)
 ok_both P Q (Err e) p q = tt
+
+pub ok_and : {X E : Type 0} (Q : X → Type 0) (P : Type 0) (r : Result X E) → IfOk r Q → OnOk r P → IfOk r (λ x. Q x × P)
+ok_and Q P (Ok x) q p = (q, p)
+ok_and Q P (Err e) q p = tt
 
 pub on_ok : {X E P Q : Type 0} (r : Result X E) → (P → Q) → OnOk r P → OnOk r Q
 on_ok (Ok x) f h = f h

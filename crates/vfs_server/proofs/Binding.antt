@@ -234,3 +234,12 @@ seat_found (Some seat) directory is = (seat, refl, cc)
 pub seat_none : (o : Option Seat) → option_map (λ seat. seat.directory) o ≡ None → o ≡ None
 seat_none None is = refl
 seat_none (Some seat) is = absurd (cc)
+
+-- the connection that was to a node
+pub connection_found : (o : Option Connection) (node : NodeRef) → option_map (λ connection. connection.birth.node) o ≡ Some node → (connection : Connection) × (o ≡ Some connection) × (connection.birth.node ≡ node)
+connection_found None node is = absurd (cc)
+connection_found (Some connection) node is = (connection, refl, cc)
+
+pub connection_none : (o : Option Connection) → option_map (λ connection. connection.birth.node) o ≡ None → o ≡ None
+connection_none None is = refl
+connection_none (Some connection) is = absurd (cc)

@@ -12,8 +12,8 @@ use Rattle.conn_rules.specs.Served.{Gives, IsServed, KeepsHolds}
 use Rattle.dir_conn.specs.declared.served.DirServed.{DirServed}
 use Rattle.dir_conn.specs.declared.served.DirServed.TheVariants as dir
 use Rattle.dir_conn.specs.Served.{DirGives, IsDirServed, told_with}
-use Rattle.vfs_server.specs.declared.given.Given.{Given}
-use Rattle.vfs_server.specs.declared.given.Given.TheVariants as given
+use Rattle.vfs_server.specs.Given.{Given}
+use Rattle.vfs_server.specs.Given as given
 use Rattle.vfs_server.specs.Steps.{Acts, IsGiven, of_directory, of_other}
 
 -- ---- of a directory's connection

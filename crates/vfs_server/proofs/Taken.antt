@@ -25,8 +25,8 @@ use Rattle.dirents.specs.Listings.{fits_none}
 use Rattle.conn_rules.specs.Refusals.{as_status, unless}
 use Rattle.node_graph.specs.Graph.{link_refusal, rename_refusal, resize_refusal}
 use Rattle.vfs_journal.specs.Serving.{object_of}
-use Rattle.vfs_server.specs.declared.given.Given.{Given}
-use Rattle.vfs_server.specs.declared.given.Given.TheVariants as given
+use Rattle.vfs_server.specs.Given.{Given}
+use Rattle.vfs_server.specs.Given as given
 use Rattle.vfs_server.specs.Steps.{IsGiven}
 
 -- an answer by which an endpoint is bound, and what is given so

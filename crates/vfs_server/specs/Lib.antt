@@ -1,6 +1,7 @@
 pub mod Servers
 pub mod Holding
 pub mod KeptNodes
+pub mod Given
 pub mod Effects
 pub mod Fates
 pub mod Binding

@@ -1,6 +1,7 @@
 -- Words of the steps of a serving: who asks, what a connection gives, and what is done with it. No public clause needs these.
-use Rattle.std.specs.Prelude.{◌≡◌, ◌≢◌, ◌<◌, ◌^◌, ℕ, true, false, nat_le, All, Contains, List, [], ◌∷◌, ◌++◌, length, filter, Option, Some, None, option_and_then}
+use Rattle.std.specs.Prelude.{◌≡◌, ◌≢◌, ◌<◌, ◌^◌, ◌==◌, ℕ, true, false, nat_le, All, Contains, List, [], ◌∷◌, ◌++◌, length, map, filter, Option, Some, None, Result, Ok, Err, option_and_then}
 use Rattle.std.specs.FinMap as finite
+use Rattle.std.specs.Map.{lookup}
 use Rattle.std.specs.Option.{option_map}
 use Rattle.std.specs.Str.{IsUtf8}
 use Rattle.fidl_names.specs.HandleNumber.{end_of_mount}
@@ -8,6 +9,7 @@ use Rattle.fidl_names.specs.declared.limits.TheConstants as limit
 use Rattle.fidl_names.specs.declared.methods.Handle.{Handle}
 use Rattle.fidl_names.specs.declared.methods.Handle.TheVariants.{Endpoint, Token}
 use Rattle.fidl_names.specs.declared.methods.Method.TheVariants as method
+use Rattle.fidl_names.specs.declared.statuses.Status.{Status}
 use Rattle.fidl_wire.specs.Written.{Written}
 use Rattle.link_frames.specs.Frames.{Frame, frame_with, spellings}
 use Rattle.link_admission.specs.Numbering.{among}
@@ -41,7 +43,7 @@ use Rattle.conn_rules.specs.Served.{HasNothing, HasReply, IsBirth, IsServed, Kee
 use Rattle.conn_rules.specs.Shared.{CanBeBound}
 use Rattle.dir_conn.specs.declared.served.DirServed.{DirServed}
 use Rattle.dir_conn.specs.declared.served.DirServed.TheVariants as dir
-use Rattle.dir_conn.specs.Served.{directory_named}
+use Rattle.dir_conn.specs.Served.{directory_named, told_with}
 use Rattle.file_conn.specs.Texts.{text_of}
 use Rattle.vfs_journal.specs.Handles.{numbers_of}
 use Rattle.vfs_journal.specs.Outcomes as outcomes
@@ -57,8 +59,8 @@ use Rattle.vfs_server.specs.declared.deed.Deed.{Deed}
 use Rattle.vfs_server.specs.declared.deed.Deed.TheVariants as deeds
 use Rattle.vfs_server.specs.declared.fate.Fate.{Fate}
 use Rattle.vfs_server.specs.declared.fate.Fate.TheVariants as fates
-use Rattle.vfs_server.specs.declared.given.Given.{Given}
-use Rattle.vfs_server.specs.declared.given.Given.TheVariants as given
+use Rattle.vfs_server.specs.Given.{Given}
+use Rattle.vfs_server.specs.Given as given
 use Rattle.vfs_server.specs.Binding.{Binds, CanName, CanWatch, HasPlace, IsDirectory, NamesBy}
 use Rattle.vfs_server.specs.Effects.{Effects, effects_of, effects_done, no_effects}
 use Rattle.vfs_server.specs.Kept.{NameDirectories, Tokens}
@@ -84,6 +86,13 @@ IsOfItsKind (conn.File c) = c.birth.protocol ≡ protocol.File
 IsOfItsKind (conn.Node c) = c.birth.protocol ≡ protocol.Node
 IsOfItsKind (conn.Echo birth) = birth.protocol ≡ protocol.Echo
 
+-- connections by their endpoints, as they are seen
+abbrev pub seen_in : List (ℕ × Conn) → List (ℕ × Connection)
+seen_in entries = map (λ entry. (entry.0, connection_of entry.1)) entries
+
+abbrev pub AreOfTheirKinds : List (ℕ × Conn) → Type 0
+AreOfTheirKinds entries = (endpoint : ℕ) (one : Conn) → lookup (λ other. endpoint == other) entries ≡ Some one → IsOfItsKind one
+
 -- ---- what a connection gives
 
 -- what a directory's connection gives
@@ -104,6 +113,15 @@ of_other (served.Bind birth) = given.Bind birth
 of_other (served.Refused status) = given.Refused status
 of_other (served.End status) = given.End status
 of_other served.NoMemory = given.NoMemory
+
+-- what a connection of any kind answered, as a directory's does, but that it may end itself with a status; and what watchers are to be told of it
+abbrev pub given_by : Result DirServed Status → Given
+given_by (Ok served) = of_directory served
+given_by (Err status) = given.End status
+
+abbrev pub told_in : Result DirServed Status → List Happening
+told_in (Ok served) = told_with served
+told_in (Err status) = nothing_told
 
 -- a connection gives this answer to a request with this transaction id
 abbrev pub IsGiven : Answer → ℕ → Given → Written → Type 0
@@ -267,14 +285,13 @@ abbrev pub act_asked : Asking → Connection → Tree → (ℕ → Option ℕ) �
 act_asked asking connection tree directory request =
     act_of (context_of connection (room_for asking (number_of connection.birth.node)) tree directory) request
 
--- what each step of a serving on a connection stands on: the graph stands for a tree, has the connection's node, and can make more; tokens
--- name directories of it; and nothing is to be told yet
-pub record CanServe (asking : Asking) (graph : Kept) (changes : Changes) (connection : Connection) : Type 0 where
+-- what each step of a serving on a connection stands on: the graph stands for a tree, has the connection's node, and can make more; and tokens
+-- name directories of it
+pub record CanServe (asking : Asking) (graph : Kept) (connection : Connection) : Type 0 where
   pub tree : (tree : Tree) × StandsFor graph tree
   pub made : graph.made < 2 ^ 63
   pub node : CanBeBound graph connection.birth
   pub directories : NameDirectories graph asking.tokens.now
-  pub none : told_by changes ≡ nothing_told
 
 -- a request of this protocol
 pub record IsRequestTo (p : Protocol) (id : ℕ) (request : Asked) : Type 0 where

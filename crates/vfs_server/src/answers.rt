@@ -6,22 +6,34 @@ ghost use Rattle.link_frames.specs.Frames.{spellings};
 ghost use Rattle.io_messages.specs.Asked.{asked};
 ghost use Rattle.vfs_journal.specs.Outcomes.{announcement, ending};
 ghost use Rattle.vfs_journal.specs.Serving.{object_of};
-ghost use Rattle.vfs_server.specs.Steps.{BindsConnection, DoesFault, DoesGiven, HasTxid, connection_of, fate_by};
+ghost use Rattle.vfs_server.specs.Steps.{BindsConnection, DoesFault, DoesGiven, HasTxid, fate_by, given_by, of_directory, told_in};
+ghost use Rattle.dir_conn.specs.Served.{told_with};
+ghost use Rattle.vfs_server.specs.Given as gives;
+ghost use Rattle.conn_rules.specs.Answers.{nothing_told};
+ghost use Rattle.conn_rules.specs.Served.{told_by};
 
 use crate::asking::Asking;
-use crate::conn::Conn;
 use crate::deed::Deed;
 use crate::frames::{put_announcement, put_ending, put_last, put_message};
-use crate::given::Given;
-use conn_rules::Birth;
+use conn_rules::{Birth, Changes};
+use dir_conn::DirServed;
 use fidl_names::{Handle, NoMemory, Status};
 use fidl_wire::{Ordinals, Out};
 use io_messages::{Protocol, Reply, Request, RequestFault, write_reply};
 use link_frames::{Outbox, write_message};
 use node_graph::NodeRef;
 
+/// Whom an answer goes to: the endpoint that is served, the node that its connection is to, and the endpoint that the
+/// request carries, 0 for none.
+#[derive(Clone, Copy)]
+pub(crate) struct Asker {
+    pub endpoint: u32,
+    pub node: NodeRef,
+    pub object: u32,
+}
+
 /// The endpoint that a request carries, 0 for none.
-fn object_of(request: &Request<'_>) -> u32
+pub(crate) fn object_of(request: &Request<'_>) -> u32
     ensures { result ≡ object_of (asked request.now) }
 {
     match request {
@@ -32,48 +44,77 @@ fn object_of(request: &Request<'_>) -> u32
     }
 }
 
-/// Does what the connection that is asked gave to a request.
+/// Writes what the connection of an asker gave to a request, or ends its endpoint, and tells what is to be done then.
+/// What watchers are to be told is put into the changes.
 pub(crate) fn answer<'a>(
-    asking: &Asking<'_>,
-    conn: &Conn,
-    request: &Request<'_>,
-    given: Given<'a>,
+    ordinals: &Ordinals,
+    asker: &Asker,
+    given: Result<DirServed<'a>, Status>,
     out: &mut Out,
     outbox: &mut Outbox,
+    changes: &mut Changes<'a>,
 ) -> Result<Deed<'a>, NoMemory>
-    requires connection { BindsConnection given }
-    ensures does { IfOk result (λ fate. DoesGiven asking.now.endpoint (object_of (asked request.now)) (connection_of conn.now).birth.node given.entry out.old fate outbox.old outbox.new) }
+    requires connection { BindsConnection (given_by given) }
+    requires none { told_by changes.old ≡ nothing_told }
+    ensures does { IfOk result (λ deed. DoesGiven asker.now.endpoint asker.now.object asker.now.node (given_by given.entry) out.old deed outbox.old outbox.new) }
+    ensures told { OnOk result (told_by changes.new ≡ told_in given.entry) }
     ensures no_memory { OnErr result (outbox.new ≡ outbox.old) }
 {
-    let endpoint = asking.endpoint;
     match given {
-        Given::Reply => put_reply(endpoint, conn.node(), out, outbox),
-        Given::ReplyEnd => {
+        Ok(served) => answer_served(ordinals, asker, served, out, outbox, changes),
+        Err(status) => end(asker.endpoint, status, out, outbox),
+    }
+}
+
+/// Does so where the endpoint isn't ended.
+fn answer_served<'a>(
+    ordinals: &Ordinals,
+    asker: &Asker,
+    served: DirServed<'a>,
+    out: &mut Out,
+    outbox: &mut Outbox,
+    changes: &mut Changes<'a>,
+) -> Result<Deed<'a>, NoMemory>
+    requires connection { BindsConnection (of_directory served) }
+    requires none { told_by changes.old ≡ nothing_told }
+    ensures does { IfOk result (λ deed. DoesGiven asker.now.endpoint asker.now.object asker.now.node (of_directory served.entry) out.old deed outbox.old outbox.new) }
+    ensures told { OnOk result (told_by changes.new ≡ told_with served.entry) }
+    ensures no_memory { OnErr result (outbox.new ≡ outbox.old) }
+{
+    let endpoint = asker.endpoint;
+    let object = asker.object;
+    match served {
+        DirServed::Reply(told) => {
+            *changes = told;
+            put_reply(endpoint, asker.node, out, outbox)
+        }
+        DirServed::ReplyEnd => {
             put_last(endpoint, out, outbox)?;
             Ok(Deed::Ends)
         }
-        Given::Bind(birth) => bind(asking.ordinals, object_of(request), birth, out, outbox),
-        Given::WatchBy(mask) => {
+        DirServed::Bind(birth, told) => {
+            *changes = told;
+            bind(ordinals, object, birth, out, outbox)
+        }
+        DirServed::WatchBy(mask) => {
             put_message(endpoint, out, outbox)?;
             Ok(Deed::Watches {
-                object: object_of(request),
-                directory: conn.node(),
+                object,
+                directory: asker.node,
                 mask,
             })
         }
-        Given::Forward { mount, flags, rest } => Ok(Deed::Forwards {
+        DirServed::Forward { mount, flags, rest } => Ok(Deed::Forwards {
             mount,
-            object: object_of(request),
+            object,
             flags,
             rest,
         }),
-        Given::Refused(status) => {
-            let object = object_of(request);
+        DirServed::Refused(status) => {
             put_ending(object, status, out, outbox)?;
             Ok(Deed::Refuses { object })
         }
-        Given::End(status) => end(endpoint, status, out, outbox),
-        Given::NoMemory => Err(NoMemory),
+        DirServed::NoMemory => Err(NoMemory),
     }
 }
 
@@ -81,7 +122,7 @@ pub(crate) fn answer<'a>(
 #[inline(always)]
 pub(crate) fn put_bare_reply(endpoint: u32, out: &Out, outbox: &mut Outbox) -> Result<(), NoMemory>
     requires bare { out.now.handles ≡ [] }
-    ensures does { (object : ℕ) (node : NodeRef) → OnOk result (DoesGiven endpoint object node Given.Reply out.now Deed.Stays outbox.old outbox.new) }
+    ensures does { (object : ℕ) (node : NodeRef) → OnOk result (DoesGiven endpoint object node gives.Reply out.now Deed.Stays outbox.old outbox.new) }
     ensures no_memory { OnErr result (outbox.new ≡ outbox.old) }
 {
     write_message(outbox, endpoint, &[], out.as_bytes())
@@ -94,7 +135,7 @@ pub(crate) fn put_reply<'a>(
     out: &Out,
     outbox: &mut Outbox,
 ) -> Result<Deed<'a>, NoMemory>
-    ensures does { (object : ℕ) → IfOk result (λ fate. DoesGiven endpoint object node Given.Reply out.now fate outbox.old outbox.new) }
+    ensures does { (object : ℕ) → IfOk result (λ fate. DoesGiven endpoint object node gives.Reply out.now fate outbox.old outbox.new) }
     ensures no_memory { OnErr result (outbox.new ≡ outbox.old) }
 {
     put_message(endpoint, out, outbox)?;

@@ -5,14 +5,15 @@ ghost use Rattle.io_messages.specs.Asked.{asked};
 ghost use Rattle.node_graph.specs.Graph.{StandsFor};
 ghost use Rattle.node_graph.specs.Tree.{Tree};
 ghost use Rattle.conn_rules.specs.Births.{fresh};
-ghost use Rattle.conn_rules.specs.Served.{HasNothing, KeepsHolds, told_by};
-ghost use Rattle.vfs_server.specs.Steps.{Acts, CanServe, IsOfItsKind, IsRequestTo, NamesAsThere, act_asked, connection_of};
+ghost use Rattle.conn_rules.specs.Served.{HasNothing, KeepsHolds};
+ghost use Rattle.vfs_server.specs.Steps.{Acts, CanServe, IsOfItsKind, IsRequestTo, NamesAsThere, act_asked, connection_of, given_by, of_other, told_in};
+ghost use Rattle.vfs_server.specs.Given as gives;
+ghost use Rattle.conn_rules.specs.Answers.{nothing_told};
 
 use crate::asking::Asking;
-use crate::given::Given;
-use conn_rules::{Birth, Changes};
-use dir_conn::DirConn;
-use fidl_names::NoMemory;
+use conn_rules::{Birth, Changes, Served};
+use dir_conn::{DirConn, DirServed};
+use fidl_names::{NoMemory, Status};
 use fidl_wire::Out;
 use file_conn::{FileConn, NodeConn, echo};
 use io_messages::{Protocol, Request};
@@ -71,24 +72,23 @@ impl Conn {
         }
     }
 
-    /// Serves a request. A directory that its token names is looked up among the server's tokens. What
-    /// watchers are to be told is put into the changes.
-    pub fn serve<'a>(
+    /// Serves a request. A directory that its token names is looked up among the server's tokens. The answer is as a
+    /// directory's connection gives it, but that the connection's own endpoint may end with a status.
+    pub fn answer<'a>(
         &mut self,
         asking: &Asking<'_>,
         graph: &mut Graph,
         txid: u32,
         request: &Request<'a>,
         out: &mut Out,
-        changes: &mut Changes<'a>,
-    ) -> Given<'a>
+    ) -> Result<DirServed<'a>, Status>
         requires kind { IsOfItsKind self.old }
-        requires can { CanServe asking.now graph.old changes.old (connection_of self.old) }
+        requires can { CanServe asking.now graph.old (connection_of self.old) }
         requires request { IsRequestTo (connection_of self.old).birth.protocol txid (asked request.now) }
         requires empty { HasNothing out.old }
         ensures acts { (tree : Tree) (directory : ℕ → Option ℕ) → StandsFor graph.old tree →
-            NamesAsThere asking.now.tokens.now directory (asked request.now) → result ≢ Given.NoMemory →
-            Acts (act_asked asking.now (connection_of self.old) tree directory (asked request.now)) txid result (told_by changes.new) out.new (connection_of self.new) graph.old graph.new }
+            NamesAsThere asking.now.tokens.now directory (asked request.now) → given_by result ≢ gives.NoMemory →
+            Acts (act_asked asking.now (connection_of self.old) tree directory (asked request.now)) txid (given_by result) (told_in result) out.new (connection_of self.new) graph.old graph.new }
         ensures holds { KeepsHolds (connection_of self.old) (connection_of self.new) graph.old graph.new }
         ensures kind { IsOfItsKind self.new }
     {
@@ -97,19 +97,34 @@ impl Conn {
         match self {
             Conn::Directory(conn) => {
                 let target = asking.tokens.target(request);
-                let served = conn.serve(ordinals, graph, room, target, txid, *request, out);
-                Given::of_directory(served, changes)
+                Ok(conn.serve(ordinals, graph, room, target, txid, *request, out))
             }
-            Conn::File(conn) => Given::of(conn.serve(ordinals, graph, room, txid, request, out)),
+            Conn::File(conn) => as_directory(conn.serve(ordinals, graph, room, txid, request, out)),
             // Copies are lent here, so that a request to a file need not lie in memory.
             Conn::Node(conn) => {
                 let request = *request;
-                Given::of(conn.serve(ordinals, graph, room, txid, &request, out))
+                as_directory(conn.serve(ordinals, graph, room, txid, &request, out))
             }
             Conn::Echo(_) => {
                 let request = *request;
-                Given::of(echo(ordinals, txid, &request, out))
+                as_directory(echo(ordinals, txid, &request, out))
             }
         }
+    }
+}
+
+/// What a connection gives at which no name comes or goes, as a directory's would; or the status with which its own
+/// endpoint ends.
+fn as_directory<'a>(served: Served) -> Result<DirServed<'a>, Status>
+    ensures given { given_by result ≡ of_other served }
+    ensures told { told_in result ≡ nothing_told }
+{
+    match served {
+        Served::Reply => Ok(DirServed::Reply(Changes::none())),
+        Served::ReplyEnd => Ok(DirServed::ReplyEnd),
+        Served::Bind(birth) => Ok(DirServed::Bind(birth, Changes::none())),
+        Served::Refused(status) => Ok(DirServed::Refused(status)),
+        Served::End(status) => Err(status),
+        Served::NoMemory => Ok(DirServed::NoMemory),
     }
 }

@@ -1,70 +1,32 @@
-//! A connection, and the serving of what is sent to it.
+//! The serving of what is sent to a connection.
 
 ghost use Rattle.std.specs.Prelude.{◌≡◌, ◌≤◌, ◌<◌, ◌≢◌, ℕ, true, false, OnErr, IfOk, length};
 ghost use Rattle.fidl_names.specs.declared.limits.TheConstants as limit;
 ghost use Rattle.io_messages.specs.Asked.{asked};
 ghost use Rattle.io_messages.specs.Requests.{request_of};
 ghost use Rattle.request_reader.specs.Parts.{AsksPart};
-ghost use Rattle.conn_rules.specs.Births.{fresh};
-ghost use Rattle.conn_rules.specs.Served.{HasNothing, KeepsHolds};
+ghost use Rattle.conn_rules.specs.Served.{HasNothing, KeepsHolds, told_by};
+ghost use Rattle.conn_rules.specs.Answers.{nothing_told};
 ghost use Rattle.conn_rules.specs.Shared.{CanBeBound};
 ghost use Rattle.vfs_journal.specs.Handles.{numbers_of};
 ghost use Rattle.vfs_journal.specs.Serving.{Moment, outcome_of_read};
-ghost use Rattle.vfs_server.specs.Steps.{Answers, AreNamed, CanServe, CanTell, IsAskedAt, IsPartServed, done_with};
+ghost use Rattle.vfs_server.specs.Steps.{Answers, AreNamed, CanServe, CanTell, IsAskedAt, IsOfItsKind, IsPartServed, connection_of, done_with};
 
-use crate::answers::{answer, answer_fault};
+use crate::answers::{Asker, answer, answer_fault, object_of};
 use crate::asking::Asking;
 use crate::conn::Conn;
 use crate::deed::Deed;
 use crate::message::Message;
-use conn_rules::{Birth, Changes, Room};
+use conn_rules::{Changes, Room};
 use fidl_names::NoMemory;
 use fidl_wire::{Ordinals, Out};
 use file_conn::FileConn;
 use io_messages::{Protocol, Request};
 use link_frames::Outbox;
-use node_graph::{Graph, NodeRef};
+use node_graph::Graph;
 use request_reader::read_request;
-use std::alloc::Global;
-use std::marker::Model;
 
-/// A connection to a node, whatever that is.
-#[derive(Drop)]
-pub(crate) struct Connection {
-    conn: Conn,
-}
-
-impl Model for Connection {
-    ghost use Rattle.conn_rules.specs.Births as births;
-    ghost use Rattle.conn_rules.specs.Codes.{connection_code};
-    ghost use Rattle.vfs_server.specs.Steps.{IsOfItsKind, connection_of};
-
-    ghost Value = { births.Connection };
-
-    ghost coded = { connection_code };
-
-    ghost view = { λ connection. connection_of connection.conn };
-
-    ghost invariant = { λ connection. IsOfItsKind connection.conn };
-}
-
-impl Connection {
-    /// A connection that was just bound.
-    pub fn new(alloc: Global, birth: Birth) -> Result<Connection, NoMemory>
-        requires watcher { birth.protocol ≢ Protocol.Watcher }
-        ensures { IfOk result (λ connection. connection ≡ record { birth = birth; position = fresh }) }
-    {
-        let conn = Conn::new(alloc, birth)?;
-        Ok(Connection { conn })
-    }
-
-    /// Lets go of it, and tells the node that it was bound to.
-    pub fn into_node(self) -> NodeRef
-        ensures { result ≡ self.birth.node }
-    {
-        self.conn.node()
-    }
-
+impl Conn {
     /// Serves a message: the frames of the answer are written, and the call tells what is to be done then. What
     /// watchers are to be told is put into the changes.
     ///
@@ -79,25 +41,33 @@ impl Connection {
         outbox: &mut Outbox,
         changes: &mut Changes<'a>,
     ) -> Result<Deed<'a>, NoMemory>
-        requires can { CanServe asking.now graph.old changes.old self.old }
+        requires kind { IsOfItsKind self.old }
+        requires can { CanServe asking.now graph.old (connection_of self.old) }
+        requires none { told_by changes.old ≡ nothing_told }
         requires short { length message.now.bytes.now ≤ limit.MAX_BYTES }
-        ensures answers { (server : ℕ) (moment : Moment) → IsAskedAt server asking.now graph.old self.old moment →
+        ensures answers { (server : ℕ) (moment : Moment) → IsAskedAt server asking.now graph.old (connection_of self.old) moment →
             AreNamed asking.now.tokens.now (numbers_of message.now.handles.now) moment.directory →
-            IfOk result (λ deed. Answers moment (outcome_of_read moment (request_of self.old.birth.protocol message.now.bytes.now message.now.handles.now)) (done_with deed changes.new) self.new graph.old graph.new outbox.old outbox.new) }
-        ensures tells { IfOk result (λ deed. CanTell asking.now message.now.handles.now (done_with deed changes.new) self.new outbox.old outbox.new) }
-        ensures holds { KeepsHolds self.old self.new graph.old graph.new }
+            IfOk result (λ deed. Answers moment (outcome_of_read moment (request_of (connection_of self.old).birth.protocol message.now.bytes.now message.now.handles.now)) (done_with deed changes.new) (connection_of self.new) graph.old graph.new outbox.old outbox.new) }
+        ensures tells { IfOk result (λ deed. CanTell asking.now message.now.handles.now (done_with deed changes.new) (connection_of self.new) outbox.old outbox.new) }
+        ensures holds { KeepsHolds (connection_of self.old) (connection_of self.new) graph.old graph.new }
+        ensures kind { IsOfItsKind self.new }
         ensures no_memory { OnErr result (outbox.new ≡ outbox.old) }
     {
         out.clear();
         match read_request(
             asking.ordinals,
-            self.conn.protocol(),
+            self.protocol(),
             message.bytes,
             message.handles,
         ) {
             Ok((txid, request)) => {
-                let given = self.conn.serve(asking, graph, txid, &request, out, changes);
-                answer(asking, &self.conn, &request, given, out, outbox)
+                let given = self.answer(asking, graph, txid, &request, out);
+                let asker = Asker {
+                    endpoint: asking.endpoint,
+                    node: self.node(),
+                    object: object_of(&request),
+                };
+                answer(asking.ordinals, &asker, given, out, outbox, changes)
             }
             Err(fault) => answer_fault(asking, fault, out, outbox),
         }
@@ -114,15 +84,17 @@ impl Connection {
         request: &Request<'_>,
         out: &mut Out,
     ) -> bool
-        requires node { CanBeBound graph.old self.old.birth }
+        requires kind { IsOfItsKind self.old }
+        requires node { CanBeBound graph.old (connection_of self.old).birth }
         requires part { AsksPart (asked request.now) }
         requires txid { 0 < txid }
-        ensures file { result ≡ true → self.old.birth.protocol ≡ Protocol.File }
-        ensures reads { self.old.birth.protocol ≡ Protocol.File → result ≡ true }
-        ensures served { result ≡ true → IsPartServed self.old (asked request.now) txid out.new self.new graph.old graph.new }
+        ensures file { result ≡ true → (connection_of self.old).birth.protocol ≡ Protocol.File }
+        ensures reads { (connection_of self.old).birth.protocol ≡ Protocol.File → result ≡ true }
+        ensures served { result ≡ true → IsPartServed (connection_of self.old) (asked request.now) txid out.new (connection_of self.new) graph.old graph.new }
+        ensures kind { IsOfItsKind self.new }
         ensures unchanged { result ≡ false → (self.new ≡ self.old) × (graph.new ≡ graph.old) }
     {
-        let Conn::File(conn) = &mut self.conn else {
+        let Conn::File(conn) = self else {
             return false;
         };
         out.clear();

@@ -1,9 +1,11 @@
 //! The connections of a server, by their endpoints.
 
-ghost use Rattle.std.specs.Prelude.{◌≡◌, ◌≤◌, ◌<◌, ℕ, true, false, IfOk, OnErr, OnOk, Some, None, length};
+ghost use Rattle.std.specs.Prelude.{◌≡◌, ◌≢◌, ◌≤◌, ◌<◌, ℕ, true, false, IfOk, OnErr, OnOk, Some, None, length};
 ghost use Rattle.fidl_names.specs.declared.limits.TheConstants as limit;
 ghost use Rattle.std.specs.FinMap as finite;
+ghost use Rattle.std.specs.Option.{option_map};
 ghost use Rattle.conn_rules.specs.Births as births;
+ghost use Rattle.conn_rules.specs.Births.{fresh};
 ghost use Rattle.conn_rules.specs.Answers.{nothing_told};
 ghost use Rattle.conn_rules.specs.Served.{KeepsHolds, told_by};
 ghost use Rattle.conn_rules.specs.Shared.{CanBeBound};
@@ -15,15 +17,15 @@ ghost use Rattle.vfs_journal.specs.Serving.{Moment, outcome_of_read};
 ghost use Rattle.vfs_server.specs.Steps.{Answers, AreNamed, CanServe, CanTell, IsAskedAt, IsPartServed, IsPassedOver, done_with};
 
 use crate::asking::Asking;
-use crate::connection::Connection;
+use crate::conn::Conn;
 use crate::deed::Deed;
 use crate::message::Message;
-use conn_rules::Changes;
+use conn_rules::{Birth, Changes};
 use fidl_names::NoMemory;
 use fidl_wire::{Ordinals, Out};
 use io_messages::{Protocol, Request};
 use link_frames::Outbox;
-use node_graph::Graph;
+use node_graph::{Graph, NodeRef};
 use std::alloc::Global;
 use std::collections::HashMap;
 use std::marker::Model;
@@ -31,7 +33,7 @@ use std::marker::Model;
 /// Connections, each at its endpoint.
 #[derive(Drop)]
 pub(crate) struct Connections {
-    kept: HashMap<u32, Connection>,
+    kept: HashMap<u32, Conn>,
 }
 
 impl Model for Connections {
@@ -39,12 +41,15 @@ impl Model for Connections {
     ghost use Rattle.std.specs.FinMap as finite;
     ghost use Rattle.std.specs.Ordering.{nat_cmp};
     ghost use Rattle.conn_rules.specs.Births as births;
+    ghost use Rattle.vfs_server.specs.Steps.{AreOfTheirKinds, seen_in};
 
     ghost Value = { finite.FinMap nat_cmp births.Connection };
 
     ghost coded = { connections_code };
 
-    ghost view = { λ connections. finite.from_entries connections.kept.entries };
+    ghost view = { λ connections. finite.from_entries (seen_in connections.kept.entries) };
+
+    ghost invariant = { λ connections. AreOfTheirKinds connections.kept.entries };
 }
 
 impl Connections {
@@ -64,22 +69,25 @@ impl Connections {
         self.kept.len()
     }
 
-    /// Puts one at an endpoint that has none.
-    pub fn insert(&mut self, endpoint: u32, connection: Connection) -> Result<(), NoMemory>
+    /// Puts one that is just bound at an endpoint that has none.
+    pub fn insert(&mut self, alloc: Global, endpoint: u32, birth: Birth) -> Result<(), NoMemory>
+        requires watcher { birth.protocol ≢ Protocol.Watcher }
         requires free { finite.get self.old endpoint ≡ None }
-        ensures inserted { OnOk result (self.new ≡ finite.insert self.old endpoint connection) }
+        ensures inserted { OnOk result (self.new ≡ finite.insert self.old endpoint (record { birth = birth; position = fresh })) }
         ensures unchanged { OnErr result (self.new ≡ self.old) }
     {
-        self.kept.insert(endpoint, connection)?;
+        let conn = Conn::new(alloc, birth)?;
+        self.kept.insert(endpoint, conn)?;
         Ok(())
     }
 
-    /// Takes out the one of an endpoint, if it has one.
-    pub fn remove(&mut self, endpoint: u32) -> Option<Connection>
-        ensures given { result ≡ finite.get self.old endpoint }
+    /// Takes out the one of an endpoint, if it has one, and tells the node that it was to.
+    pub fn remove(&mut self, endpoint: u32) -> Option<NodeRef>
+        ensures given { result ≡ option_map (λ connection. connection.birth.node) (finite.get self.old endpoint) }
         ensures removed { self.new ≡ finite.remove self.old endpoint }
     {
-        self.kept.remove(&endpoint)
+        let conn = self.kept.remove(&endpoint)?;
+        Some(conn.node())
     }
 
     /// Serves a message on the one of the endpoint that is asked. No other changes. What watchers are to be
@@ -94,7 +102,7 @@ impl Connections {
         outbox: &mut Outbox,
         changes: &mut Changes<'a>,
     ) -> Result<Deed<'a>, NoMemory>
-        requires can { (connection : births.Connection) → finite.get self.old asking.now.endpoint ≡ Some connection → CanServe asking.now graph.old changes.old connection }
+        requires can { (connection : births.Connection) → finite.get self.old asking.now.endpoint ≡ Some connection → CanServe asking.now graph.old connection }
         requires short { length message.now.bytes.now ≤ limit.MAX_BYTES }
         requires none { told_by changes.old ≡ nothing_told }
         ensures served { (old : births.Connection) → finite.get self.old asking.now.endpoint ≡ Some old →

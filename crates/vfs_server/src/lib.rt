@@ -11,7 +11,6 @@ mod deed;
 mod fate;
 mod firsts;
 mod frames;
-mod given;
 mod message;
 mod server;
 mod telling;

@@ -22,7 +22,6 @@ ghost use Rattle.vfs_journal.specs.Output.{Begins};
 use crate::answers::put_bare_reply;
 use crate::asking::Asking;
 use crate::beginning;
-use crate::connection::Connection;
 use crate::connections::Connections;
 use crate::deed::Deed;
 use crate::fate::Fate;
@@ -279,8 +278,7 @@ impl Server {
         ensures unchanged { OnErr result (self.new ≡ self.old) }
     {
         let node = birth.node;
-        let connection = Connection::new(self.alloc, birth)?;
-        self.connections.insert(endpoint, connection)?;
+        self.connections.insert(self.alloc, endpoint, birth)?;
         self.graph.hold(node);
         Ok(())
     }
@@ -333,8 +331,8 @@ impl Server {
     pub fn unbind(&mut self, endpoint: u32)
         ensures { Unbinds self.old endpoint self.new }
     {
-        if let Some(connection) = self.connections.remove(endpoint) {
-            self.graph.release(connection.into_node());
+        if let Some(node) = self.connections.remove(endpoint) {
+            self.graph.release(node);
         } else if let Some(directory) = self.watching.remove(endpoint, &self.graph) {
             self.graph.release(directory);
         }

@@ -20,7 +20,6 @@ serve-requires-clause-can c connection there =
       made = takes.made;
       node = c.self.invariant.each c.args.message.now.endpoint connection there;
       directories = c.self.invariant.named;
-      none = c.none-changes.ensures;
     }
 
 pub invariant_of-self : goal.invariant_of-self

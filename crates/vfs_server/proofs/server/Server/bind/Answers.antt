@@ -28,7 +28,7 @@ invariant_of-self-2 c =
     let here = place c in
     let unbound = free c in
     subst (λ (connections : Connections). IsSound c.hold.new.self connections c.self.inside.watching c.self.inside.tokens)
-    (sym (c.in_ok-insert.ensures.inserted ∙ ap (finite.insert c.self.inside.connections c.args.endpoint) c.in_ok-connection.ensures))
+    (sym c.in_ok-insert.ensures.inserted)
     (sound_more c.self.inside.graph c.hold.new.self c.self.inside.connections c.self.inside.watching c.self.inside.tokens c.args.endpoint (record { birth = c.args.birth; position = fresh }) c.self.invariant
     unbound.0 unbound.1 here.node c.hold.ensures.held c.hold.ensures.names
     (subst (λ n. n < limit.MAX_CONNECTIONS) (in_use_is c.self.inside.index c.self.inside.graph c.self.inside.connections c.self.inside.watching c.self.inside.tokens) here.room))
@@ -41,6 +41,6 @@ returns-clause-bound c =
     (subst
     (λ (connections : Connections). Binds (server_of c.self.inside.index c.self.inside.graph c.self.inside.connections c.self.inside.watching c.self.inside.tokens) (bound_with c.self.inside.index c.args.endpoint c.args.birth)
     (server_of c.self.inside.index c.hold.new.self connections c.self.inside.watching c.self.inside.tokens))
-    (sym (c.in_ok-insert.ensures.inserted ∙ ap (finite.insert c.self.inside.connections c.args.endpoint) c.in_ok-connection.ensures))
+    (sym c.in_ok-insert.ensures.inserted)
     (binds_one c.self.inside.index c.self.inside.graph c.hold.new.self c.self.inside.connections c.self.inside.watching c.self.inside.tokens c.args.endpoint c.args.birth (no_watcher c.args.birth.protocol _ here.node.spoken)
     unbound.0 c.hold.ensures.tree c.hold.ensures.held c.hold.ensures.names))
