@@ -17,4 +17,5 @@ pub mod AllTold
 pub mod Counted
 pub mod Heads
 pub mod ServedLines
+pub mod Steady
 pub mod Answering
