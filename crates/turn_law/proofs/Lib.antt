@@ -18,4 +18,5 @@ pub mod Counted
 pub mod Heads
 pub mod ServedLines
 pub mod Steady
+pub mod Forwards
 pub mod Answering
