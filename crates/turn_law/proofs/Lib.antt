@@ -19,4 +19,5 @@ pub mod Heads
 pub mod ServedLines
 pub mod Steady
 pub mod Forwards
+pub mod MountEnds
 pub mod Answering
