@@ -178,3 +178,63 @@ onwards_stay below (suc more) start table forward s named stays end client is =
             rest next f (answered_named table forward.endpoint o named) next_stays on.1
             (ap is_client (among_one f.object forward.object on.0) ∙ client)
             (sending_onward below (still start pair) (message forward.bytes (forward.object ∷ [])) f g)
+
+-- ---- frames
+
+no_client_other : (e n : ℕ) → is_client e ≡ true → is_client n ≡ false → e ≢ n
+no_client_other e n client none same = true≢false (sym client ∙ ap is_client same ∙ none)
+
+clients_alone : (handles : List ℕ) (n : ℕ) → ((m : ℕ) → among m handles ≡ true → is_client m ≡ true) → is_client n ≡ false → among n handles ≡ false
+clients_alone handles n each none = false_from_ne_true (among n handles) (λ h. true≢false (sym (each n h) ∙ none))
+
+-- what is sent on a client's endpoint, with clients' endpoints
+sent_stays : Below → (more : ℕ) (start : Start) (endpoint : ℕ) (sending : Sending) (table : Table) → IsStart start → AreNamed table → EndsStay start table → is_client endpoint ≡ true →
+    ((m : ℕ) → among m (handles_of sending) ≡ true → is_client m ≡ true) → EndsStay start (answers more start endpoint sending table)
+unfolding answers
+sent_stays below zero start endpoint sending table s named stays client each = stays
+sent_stays below (suc more) start endpoint sending table s named stays client each = by_life (table.life endpoint) refl where
+  by_life : (x : Option (Bound × Position)) → table.life endpoint ≡ x → EndsStay start (by_answer (answers more start) endpoint table (option_map (λ pair. outcome_of_sending (still start pair) sending) x))
+  by_life None e = stays
+  by_life (Some pair) e = by_forward o.forward refl where
+    o : Outcome
+    o = outcome_of_sending (still start pair) sending
+
+    within : StaysWithin endpoint (handles_of sending) o
+    within = subst (λ (m : ℕ). StaysWithin m (handles_of sending) o) (named.own endpoint pair e) (sending_within below.spelled (still start pair) sending)
+
+    next : Table
+    next = answered table endpoint o
+
+    same : (n : ℕ) → is_client n ≡ false → SaySame n next table
+    same n none = answered_touches table endpoint (handles_of sending) o n named within (no_client_other endpoint n client none) (clients_alone (handles_of sending) n each none)
+
+    next_stays : EndsStay start next
+    next_stays = record { life = λ n none. (same n none).life ∙ stays.life n none; told = λ n none. (same n none).told ∙ stays.told n none }
+
+    by_forward : (x : Option Forwarded) → o.forward ≡ x → EndsStay start (onward (answers more start) x next)
+    by_forward None f = next_stays
+    by_forward (Some f) g =
+        let on = within.forward f g in
+        onwards_stay below more start next f s (answered_named table endpoint o named) next_stays on.1 (each f.object on.0) (sending_onward below (still start pair) sending f g)
+
+frame_stays : Below → (start : Start) (frame : Frame) (table : Table) → IsStart start → AreNamed table → EndsStay start table → EndsStay start (behind_frame start frame table)
+frame_stays below start frame table s named stays = by_heard (is_heard start table frame) refl frame.kind where
+  each : is_heard start table frame ≡ true → (m : ℕ) → among m frame.handles ≡ true → is_client m ≡ true
+  each heard m h = (and_parts (is_client m) _ (new_each start frame.handles (heard_parts start table frame heard).2 m (member_of m frame.handles h))).0
+
+  by_kind : is_heard start table frame ≡ true → (k : FrameKind) → EndsStay start (option_map_or (λ sending. sent_on start frame.endpoint sending table) (sending_by k frame) table)
+  by_kind heard kind.Message =
+      sent_stays below (weight_of (message frame.bytes frame.handles)) start frame.endpoint (message frame.bytes frame.handles) table s named stays (heard_parts start table frame heard).0 (each heard)
+  by_kind heard kind.Close = sent_stays below (weight_of hang_up) start frame.endpoint hang_up table s named stays (heard_parts start table frame heard).0 (λ m h. absurd (cc))
+  by_kind heard kind.Turn = stays
+  by_kind heard kind.Pick = stays
+  by_kind heard kind.Refused = stays
+
+  by_heard : (b : Bool) → is_heard start table frame ≡ b → (k : FrameKind) → EndsStay start (if b then option_map_or (λ sending. sent_on start frame.endpoint sending table) (sending_by k frame) table else table)
+  by_heard true h k = by_kind h k
+  by_heard false h k = stays
+
+pub ends_stay : Below → (start : Start) (frames : List Frame) → IsStart start → EndsStay start (table_of start frames)
+unfolding table_of
+ends_stay below start [] s = record { life = λ n none. refl; told = λ n none. refl }
+ends_stay below start (frame ∷ frames) s = frame_stays below start frame (table_of start frames) s (table_named start frames) (ends_stay below start frames s)
