@@ -10,7 +10,11 @@ use Rattle.vfs_journal.specs.Past.{history_of}
 use Rattle.vfs_journal.specs.Starts.{Bound, Start}
 use Rattle.turn_law.specs.Counting.{before}
 use Rattle.turn_law.specs.Invariant.{AgreesOn, IsAsTold, WhereNothingWaitsAllIsTold, queue_on, written_on}
+use Rattle.journal_laws.specs.Soundness.{IsStart}
+use Rattle.journal_laws.proofs.Below.{Below}
+use Rattle.turn_law.specs.Steps.{frames_in, journal_of}
 use Rattle.turn_law.specs.Told.{table_of}
+use Rattle.turn_law.proofs.MountEnds.{ends_stay}
 use Rattle.turn_law.proofs.ArrivalsAgree.{bound_on}
 
 told_there : (start : Start) (journal : Journal) (frames : List Frame) (n : ℕ) → AgreesOn start journal frames n → waiting (history_of start journal) ≡ [] → written_on start journal n ≡ (table_of start frames).told n
@@ -30,5 +34,8 @@ told_there start journal frames n agrees nothing = by_bound (bound_at start past
       ap (λ (x : Option Bound). is_some x || among n (travelling past)) e ∙ ap (λ (ones : List Sent). among n (flat_map endpoints_in ones)) nothing in
       sym (agrees.gone unlive).told
 
-pub all_told : WhereNothingWaitsAllIsTold
-all_told start steps n agrees nothing client = told_there start _ _ n (agrees.clients n client) nothing
+pub all_told : Below → WhereNothingWaitsAllIsTold
+all_told below start steps n s agrees nothing = by_client (is_client n) refl where
+  by_client : (b : Bool) → is_client n ≡ b → written_on start (journal_of start steps) n ≡ (table_of start (frames_in steps)).told n
+  by_client true e = told_there start (journal_of start steps) (frames_in steps) n (agrees.clients n e) nothing
+  by_client false e = agrees.ends n e ∙ sym ((ends_stay below start (frames_in steps) s).told n e)

@@ -36,7 +36,7 @@ unnamed_parts true b c h = absurd (cc)
 unnamed_parts false true c h = absurd (cc)
 unnamed_parts false false c h = (refl, h)
 
-no_life : (start : Start) (frame : Frame) (frames : List Frame) (n : ℕ) → (table_of start frames).life n ≡ None → frame.endpoint ≡ n → is_heard start (table_of start frames) frame ≡ false
+pub no_life : (start : Start) (frame : Frame) (frames : List Frame) (n : ℕ) → (table_of start frames).life n ≡ None → frame.endpoint ≡ n → is_heard start (table_of start frames) frame ≡ false
 no_life start frame frames n none at =
     ap (λ (m : ℕ). is_client m && (is_some ((table_of start frames).life m) && list_all (is_new start) frame.handles)) at
     ∙ ap (λ (o : Option (Bound × Position)). is_client n && (is_some o && list_all (is_new start) frame.handles)) none
@@ -77,7 +77,7 @@ unnamed_closed start (frame ∷ frames) n unnamed =
     ap (λ (b : Bool). (b && is_new start n) || (is_open start n frames && not (is_close frame.kind && (frame.endpoint == n)))) parts.0
     ∙ ap (λ (b : Bool). b && not (is_close frame.kind && (frame.endpoint == n))) (unnamed_closed start frames n parts.1)
 
-closed_counts : (start : Start) (frames : List Frame) (frame : Frame) (n : ℕ) → is_open start n frames ≡ false → counts_on start n frames frame ≡ false
+pub closed_counts : (start : Start) (frames : List Frame) (frame : Frame) (n : ℕ) → is_open start n frames ≡ false → counts_on start n frames frame ≡ false
 closed_counts start frames frame n closed =
     ap (λ (b : Bool). (frame.endpoint == n) && (b && list_all (is_new start) frame.handles)) closed ∙ none_right (frame.endpoint == n) where
       none_right : (b : Bool) → (b && false) ≡ false
@@ -102,7 +102,7 @@ pub counted_more : (start : Start) (n : ℕ) (frame : Frame) (frames : List Fram
 unfolding counting
 counted_more start n frame frames counts = ap (λ (b : Bool). if b then frame ∷ counting start n frames else counting start n frames) counts
 
-before_uncounted : (start : Start) (n ahead : ℕ) (frame : Frame) (frames : List Frame) → counts_on start n frames frame ≡ false → SaySame n (table_of start (frame ∷ frames)) (table_of start frames) →
+pub before_uncounted : (start : Start) (n ahead : ℕ) (frame : Frame) (frames : List Frame) → counts_on start n frames frame ≡ false → SaySame n (table_of start (frame ∷ frames)) (table_of start frames) →
     SaySame n (table_of start (before start n ahead (frame ∷ frames))) (table_of start (before start n ahead frames))
 unfolding before
 before_uncounted start n zero frame frames uncounted same = same

@@ -26,7 +26,7 @@ use Rattle.turn_law.proofs.Touching.{frames_touch, same_table, then_same}
 
 -- ---- what doesn't count says nothing
 
-table_same : (n : ℕ) (one other : Table) → one ≡ other → SaySame n one other
+pub table_same : (n : ℕ) (one other : Table) → one ≡ other → SaySame n one other
 table_same n one other e = record { life = ap (λ t. t.life n) e; told = ap (λ t. t.told n) e }
 
 pub uncounted_steady : SpelledWhereRead → (start : Start) (n : ℕ) (frame : Frame) (frames : List Frame) → IsStart start → All (IsFrame ToServers) (frame ∷ frames) → HandlesStandOnce (frame ∷ frames) → is_client n ≡ true →

@@ -17,4 +17,7 @@ pub mod AllTold
 pub mod Counted
 pub mod Heads
 pub mod ServedLines
+pub mod Steady
+pub mod Forwards
+pub mod MountEnds
 pub mod Answering

@@ -323,7 +323,7 @@ open_uncarried : (start : Start) (n : ℕ) (frame : Frame) (frames : List Frame)
 unfolding is_open
 open_uncarried start n frame frames none = ap (λ (b : Bool). b || (is_open start n frames && not (is_close frame.kind && (frame.endpoint == n)))) none
 
-named_more : (start : Start) (n : ℕ) (frame : Frame) (frames : List Frame) → is_named start frames n ≡ true → is_named start (frame ∷ frames) n ≡ true
+pub named_more : (start : Start) (n : ℕ) (frame : Frame) (frames : List Frame) → is_named start frames n ≡ true → is_named start (frame ∷ frames) n ≡ true
 named_more start n frame frames h = shuffled (list_any (λ bound. bound.endpoint == n) start.firsts) (among n frame.handles) (list_any (λ f. among n f.handles) frames) h
 
 -- behind a refusal endpoints live and are closed as before

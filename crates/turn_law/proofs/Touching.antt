@@ -80,7 +80,7 @@ answers_named (suc more) start endpoint sending table named = by_outcome (λ e s
 
 -- ---- one answer
 
-nothing_on : (n : ℕ) (frames : List Frame) → All (λ frame. frame.endpoint ≢ n) frames → messages_on n frames ≡ []
+pub nothing_on : (n : ℕ) (frames : List Frame) → All (λ frame. frame.endpoint ≢ n) frames → messages_on n frames ≡ []
 nothing_on n [] h = refl
 nothing_on n (frame ∷ frames) h =
     ap (λ (b : Bool). if is_message frame.kind && b then frame ∷ messages_on n frames else messages_on n frames) (ne_eqb frame.endpoint n (All-head (λ f. f.endpoint ≢ n) frame frames h))
@@ -106,7 +106,7 @@ unmoved n served position None own other = refl
 unmoved n served position (Some pair) own other =
     ap (λ (b : Bool). Some (if b then (pair.0, position) else pair)) (ne_eqb pair.0.endpoint served (λ e. other (sym e ∙ own pair refl)))
 
-answered_touches : (table : Table) (served : ℕ) (handles : List ℕ) (o : Outcome) (n : ℕ) → AreNamed table → StaysWithin served handles o → served ≢ n → among n handles ≡ false → SaySame n (answered table served o) table
+pub answered_touches : (table : Table) (served : ℕ) (handles : List ℕ) (o : Outcome) (n : ℕ) → AreNamed table → StaysWithin served handles o → served ≢ n → among n handles ≡ false → SaySame n (answered table served o) table
 unfolding life_by
 answered_touches table served handles o n named within other uncarried = record {
   life =

@@ -116,10 +116,10 @@ ArrivalsAgree =
     (start : Start) (steps : List Step) (frame : Frame) → IsStart start → AreSteps start (arrival frame ∷ steps) → StepsKeepPremises start (arrival frame ∷ steps) →
     Agrees start steps → Agrees start (arrival frame ∷ steps)
 
--- where they agree and nothing waits, what was written on a client's endpoint is what it is told
+-- where they agree and nothing waits, what was written on each endpoint is what it is told
 abbrev pub WhereNothingWaitsAllIsTold : Type 0
 WhereNothingWaitsAllIsTold =
-    (start : Start) (steps : List Step) (endpoint : ℕ) → Agrees start steps → waiting (history_of start (journal_of start steps)) ≡ [] → is_client endpoint ≡ true →
+    (start : Start) (steps : List Step) (endpoint : ℕ) → IsStart start → Agrees start steps → waiting (history_of start (journal_of start steps)) ≡ [] →
     written_on start (journal_of start steps) endpoint ≡ (table_of start (frames_in steps)).told endpoint
 
 -- a serving is answered as in a moment of the table, and on each endpoint the messages of the answer are what is written

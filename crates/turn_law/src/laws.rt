@@ -63,9 +63,10 @@ pub fn arrivals_agree()
     ensures { AreDistinct → ArrivalsAgree }
 {}
 
-/// Where each endpoint is as the table says, and nothing waits, the messages written on a client's endpoint are those that it is told.
+/// Where each endpoint is as the table says, and nothing waits, the messages written on each endpoint are those that it is told; where no two
+/// names have equal ordinals.
 pub fn where_nothing_waits_all_is_told()
-    ensures { WhereNothingWaitsAllIsTold }
+    ensures { AreDistinct → WhereNothingWaitsAllIsTold }
 {}
 
 /// Where nothing changes and no limit is met, a serving is answered as in a moment with the start's tree and nothing in use, and the
