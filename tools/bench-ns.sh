@@ -20,7 +20,7 @@ measure() { # NAME
 
 echo "ns"
 echo '/ 1' > "$work/table"
-awk 'BEGIN { for (i = 0; i < 40000; i++) printf "open /data/%d/a 0x2 %d\n", i, i }' > "$work/script"
+awk 'BEGIN { for (i = 0; i < 30000; i++) printf "open /data/%d/a 0x2 %d\n", i, i }' > "$work/script"
 measure "one entry, paths of three steps"
 awk 'BEGIN { for (i = 1; i <= 60000; i++) print "/svc/" i, i }' > "$work/table"
 awk 'BEGIN { for (i = 40000; i > 0; i--) print "open /svc/" i "/a 0x2 9" }' > "$work/script"
