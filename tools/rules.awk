@@ -1,4 +1,4 @@
-# From crates.txt the rules by which make proves the libraries below `program` and builds it. Of the longest chain of
+# From crates.txt the rules by which make proves the libraries below `programs` and builds these. Of the longest chain of
 # crates, measured in lines, each gets so many `jobs`; any other gets one, and is nice to those on longer chains. To be
 # a crate counts as 190 lines (`own`), which is what a check costs before its first function.
 
@@ -13,8 +13,13 @@ index($0, ":") {
 }
 
 END {
-    visit(program)
+    tops = split(programs, top, " ")
+    for (i = 1; i <= tops; i++) {
+        is_program[top[i]] = 1
+        visit(top[i])
+    }
     for (i = 1; i <= count; i++) chain_below(order[i])
+    for (i = 1; i <= tops; i++) if (below[top[i]] > longest) longest = below[top[i]]
     for (i = count; i >= 1; i--) chain_above(order[i])
     printf "all:"
     for (i = 1; i <= count; i++) printf " %s", target(furthest())
@@ -53,14 +58,14 @@ function furthest(    i, found) {
 }
 
 function target(name) {
-    return name == program ? "build/" name : "crates/" name "/out/rlib/" name ".rlib/format"
+    return name in is_program ? "build/" name : "crates/" name "/out/rlib/" name ".rlib/format"
 }
 
 function rule(name,    parts, n, i, share) {
     n = split(uses[name], parts, " ")
     printf "%s: crates.txt %s", target(name), first_line("find crates/" name "/src crates/" name "/specs crates/" name "/proofs 2> /dev/null | sort | tr '\\n' ' '")
     for (i = 1; i <= n; i++) if (parts[i] in uses) printf " %s", target(parts[i])
-    share = (below[name] + above[name] - lines[name]) / below[program]
+    share = (below[name] + above[name] - lines[name]) / longest
     printf "\n\t@tools/prove.sh %s %d %d%s\n", name, share < 1 ? 1 : jobs, 60 * (1 - share), uses[name]
 }
 
