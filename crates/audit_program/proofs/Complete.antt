@@ -1,8 +1,7 @@
 -- With all that is needed, and without a fault, the verdict is told unless memory runs out.
 use Rattle.std.proofs.Common.{◌≡◌, ◌≤◌, ◌∙◌, ℕ, List, is_some, true≢false, length, refl, sym, ap, subst, arith, inl, inr}
-use Rattle.std.specs.Prelude.{None, Option, Some}
+use Rattle.std.specs.Prelude.{None, Some}
 use Rattle.fidl_names.specs.declared.limits.TheConstants as limit
-use Rattle.fidl_wire.specs.Names.{AreDistinct}
 use Rattle.host_io.specs.Told.{Holds, IsAllOf, IsLongerThan, Told}
 use Rattle.session_start.specs.Items.{Lists}
 use Rattle.tree_file.specs.Rules.{first_failure, start_from}
@@ -11,8 +10,7 @@ use Rattle.link_audit.specs.Verdicts.{IsVerdict}
 use Rattle.link_audit.specs.declared.auditing.TheConstants.{MAX_RECORDING}
 use Rattle.link_audit.specs.declared.verdicts.Verdict.{Verdict}
 use Rattle.named_files.specs.FileCauses.{LacksFile, LacksStart}
-use Rattle.named_files.specs.Files.{IsWithin}
-use Rattle.named_files.specs.Trees.{IsBroken, IsTree, Stands}
+use Rattle.named_files.specs.Trees.{IsBroken, Stands}
 use Rattle.run_status.specs.Outside.{FilesTold, SinkTold}
 use Rattle.vfs_journal.specs.Starts.{start_of}
 use Rattle.audit_program.specs.Answers.{Answers, HasAll, IsTold, NoFault, TellsVerdict, WritesLine}
@@ -44,7 +42,7 @@ not_broken told lists text rule item e stands broken =
     no_first broken.text (rule, item) broken.first (ap first_failure texts ∙ stands.unbroken)
 
 module _ (tree recording : List ℕ) (before after : FilesTold) (wrote writes : SinkTold) (lists : Lists) (bytes : List ℕ) (verdict : Verdict)
-  (all : HasAll tree recording before lists bytes verdict) (good : NoFault tree recording before after wrote writes) where
+    (all : HasAll tree recording before lists bytes verdict) (good : NoFault tree recording before after wrote writes) where
   no_collision : (answer : AuditStatus) → Collides answer → IsTold verdict answer
   no_collision (status.Collision first second) a = absurd (all.distinct first second a.order a.row a.equal)
   no_collision status.Done a = absurd a
