@@ -1,7 +1,7 @@
 -- The causes that stop `audit` are those that stop `vfs`, under its own statuses.
-use Rattle.std.proofs.Common.{◌≡◌, ◌≤◌, ◌+◌, ◌-◌, ◌^◌, ℕ, List, min, arith, sym, subst}
-use Rattle.host_io.specs.Causes.{NeverFalls, Rose}
-use Rattle.host_io.specs.Told.{IsAllOf, IsLongerThan, Told}
+use Rattle.std.proofs.Common.{◌≤◌, ℕ, List, arith, subst}
+use Rattle.host_io.specs.Causes.{Rose}
+use Rattle.host_io.specs.Told.{IsLongerThan, Told}
 use Rattle.run_status.specs.FileCauses.{HasNoFile, HasNoStart, LacksFile, LacksStart}
 use Rattle.run_status.specs.Files.{IsWithin, StillTold}
 use Rattle.run_status.specs.Causes.{Collides as CollidesThere}

@@ -1,8 +1,7 @@
 -- With all that is needed, and without a fault, the verdict is told unless memory runs out.
 use Rattle.std.proofs.Common.{◌≡◌, ◌≤◌, ◌∙◌, ℕ, List, is_some, true≢false, length, refl, sym, ap, subst, arith, inl, inr}
-use Rattle.std.specs.Prelude.{None, Option, Some}
+use Rattle.std.specs.Prelude.{None, Some}
 use Rattle.fidl_names.specs.declared.limits.TheConstants as limit
-use Rattle.fidl_wire.specs.Names.{AreDistinct}
 use Rattle.host_io.specs.Told.{Holds, IsAllOf, IsLongerThan, Told}
 use Rattle.session_start.specs.Items.{Lists}
 use Rattle.tree_file.specs.Rules.{first_failure, start_from}
@@ -11,8 +10,7 @@ use Rattle.link_audit.specs.Verdicts.{IsVerdict}
 use Rattle.link_audit.specs.declared.auditing.TheConstants.{MAX_RECORDING}
 use Rattle.link_audit.specs.declared.verdicts.Verdict.{Verdict}
 use Rattle.run_status.specs.FileCauses.{LacksFile, LacksStart}
-use Rattle.run_status.specs.Files.{IsWithin}
-use Rattle.run_status.specs.Trees.{IsBroken, IsTree, Stands}
+use Rattle.run_status.specs.Trees.{IsBroken, Stands}
 use Rattle.run_status.specs.Outside.{FilesTold, SinkTold}
 use Rattle.vfs_journal.specs.Starts.{start_of}
 use Rattle.audit_program.specs.Answers.{Answers, HasAll, IsTold, NoFault, TellsVerdict, WritesLine}

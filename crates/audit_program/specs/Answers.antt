@@ -32,14 +32,17 @@ AreOthers words = (tree recording : List ℕ) → AreNames words tree recording 
 -- wanting, and nothing is written
 abbrev pub WritesLine : Verdict → Type 0 → SinkTold → SinkTold → AuditStatus → Type 0
 WritesLine verdict same before after status.NoMemory = same
-WritesLine verdict same before after status.WriteFault = AppendsPart before.written after.written (line_of verdict) × Rose before.faults after.faults
-WritesLine verdict same before after answer = (answer ≡ status_of verdict) × GotAll before after (line_of verdict) × (after.faults ≡ before.faults)
+WritesLine verdict same before after status.WriteFault =
+    AppendsPart before.written after.written (line_of verdict) × Rose before.faults after.faults
+WritesLine verdict same before after answer =
+    (answer ≡ status_of verdict) × GotAll before after (line_of verdict) × (after.faults ≡ before.faults)
 
 -- the verdict on the recording is told. A yes says that the laws of sessions hold of the run that was recorded
 abbrev pub TellsVerdict : Start → List ℕ → Type 0 → SinkTold → SinkTold → AuditStatus → Type 0
 TellsVerdict start recording same before after status.NoMemory = same
 TellsVerdict start recording same before after answer =
-    (verdict : Verdict) × IsVerdict start recording verdict × VouchesForLaws start recording verdict × WritesLine verdict same before after answer
+    (verdict : Verdict) × IsVerdict start recording verdict × VouchesForLaws start recording verdict
+    × WritesLine verdict same before after answer
 
 -- the causes in their order: the names of methods, the tree's file and its rules, the recording's file; and then the verdict
 abbrev pub Answers : List ℕ → List ℕ → FilesTold → FilesTold → Type 0 → SinkTold → SinkTold → AuditStatus → Type 0

@@ -41,7 +41,8 @@ pub fn audit_words<F: Files, K: Sink, N: Sink>(
     ensures reads { (tree recording : List ℕ) → AreNames (map string_bytes words.now) tree recording →
         ReadsOnly F.reads (tree ∷ recording ∷ []) files.old files.new }
 
-    // Where all that is needed is there and no fault is met, the verdict on the recording is told, unless memory runs out. There is but one.
+    // Where all that is needed is there and no fault is met, the verdict on the recording is told, unless memory
+    // runs out. There is but one.
     ensures complete { let told = files_told F.told F.faults F.overlong in
         let wrote = sink_told K.written K.flushed K.faults in
         (tree recording : List ℕ) → AreNames (map string_bytes words.now) tree recording →
@@ -111,7 +112,8 @@ fn audit_files<F: Files, K: Sink>(
 
 /// Writes the line of a verdict, and passes it on.
 fn tell_verdict<K: Sink>(alloc: Global, verdict: Verdict, sink: &mut K) -> AuditStatus
-    ensures { WritesLine verdict (sink.new ≡ sink.old) (sink_told K.written K.flushed K.faults sink.old) (sink_told K.written K.flushed K.faults sink.new) result }
+    ensures { let wrote = sink_told K.written K.flushed K.faults in
+        WritesLine verdict (sink.new ≡ sink.old) (wrote sink.old) (wrote sink.new) result }
 {
     let Ok(line) = line_of(alloc, verdict) else {
         return AuditStatus::NoMemory;

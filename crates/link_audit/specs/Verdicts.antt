@@ -53,4 +53,5 @@ pub record IsFirstFault (start : Start) (recording : List ℕ) (before : List Re
 -- the verdict on a recording: how many records are lawful, or at which record it first isn't, counted from 0
 abbrev pub IsVerdict : Start → List ℕ → Verdict → Type 0
 IsVerdict start recording (verdict.Lawful records) = (all : List Record) × IsLawful start recording all × (length all ≡ records)
-IsVerdict start recording (verdict.Unlawful place reason) = (before : List Record) × IsFirstFault start recording before reason × (length before ≡ place)
+IsVerdict start recording (verdict.Unlawful place reason) =
+    (before : List Record) × IsFirstFault start recording before reason × (length before ≡ place)

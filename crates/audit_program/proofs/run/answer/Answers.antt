@@ -1,4 +1,4 @@
-use Rattle.std.proofs.Common.{◌≡◌, List, [], ◌∷◌, ap, map, string_bytes, sym, ◌∙◌}
+use Rattle.std.proofs.Common.{ap, map, string_bytes, sym, ◌∙◌}
 use Rattle.audit_program.proofs.WordLists.{both_same, two_items}
 use Rattle.audit_program.proofs.run.answer.Goals as goal
 
