@@ -27,7 +27,7 @@ use Rattle.journal_laws.specs.Soundness.{Carries, IsStart}
 use Rattle.turn_law.specs.Counting.{KeepPremises, before, counting, counts_on, last_sendings}
 use Rattle.turn_law.specs.Steps.{AreSteps, Step, arrival, frames_in, journal_of, service}
 use Rattle.turn_law.specs.Tables.{SaySame}
-use Rattle.turn_law.specs.Told.{Table, is_heard, messages_on, sending_by, sent_on, still, table_at_start, table_of}
+use Rattle.turn_law.specs.Told.{is_heard, messages_on, sending_by, sent_on, still, table_at_start, table_of}
 
 -- ---- in the journal
 
