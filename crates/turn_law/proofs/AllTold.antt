@@ -1,16 +1,14 @@
 -- Where nothing waits, each endpoint was told what the table says.
-use Rattle.std.proofs.Common.{◌≡◌, ℕ, ◌==◌, ◌||◌, Bool, true, false, is_some, List, [], length, filter, flat_map, Option, Some, None, refl, sym, ap, ◌∙◌, subst}
-use Rattle.std.proofs.lemmas.Bool.{true≢false}
+use Rattle.std.proofs.Common.{◌≡◌, ℕ, ◌==◌, ◌||◌, Bool, true, false, is_some, List, [], filter, flat_map, Option, Some, None, refl, sym, ap, ◌∙◌, subst}
 use Rattle.fidl_names.specs.HandleNumber.{is_client}
 use Rattle.link_frames.specs.Frames.{Frame}
 use Rattle.link_admission.specs.Numbering.{among}
 use Rattle.vfs_journal.specs.Entries.{Journal, Sent, endpoints_in}
-use Rattle.vfs_journal.specs.History.{History, bound_at, is_live, living, position_of, travelling, waiting}
+use Rattle.vfs_journal.specs.History.{History, bound_at, is_live, position_of, travelling, waiting}
 use Rattle.vfs_journal.specs.Past.{history_of}
 use Rattle.vfs_journal.specs.Starts.{Bound, Start}
 use Rattle.turn_law.specs.Counting.{before}
 use Rattle.turn_law.specs.Invariant.{AgreesOn, IsAsTold, WhereNothingWaitsAllIsTold, queue_on, written_on}
-use Rattle.journal_laws.specs.Soundness.{IsStart}
 use Rattle.journal_laws.proofs.Below.{Below}
 use Rattle.turn_law.specs.Steps.{frames_in, journal_of}
 use Rattle.turn_law.specs.Told.{table_of}

@@ -1,29 +1,27 @@
 -- A serving is answered as in a moment of the table, and its messages are what is written.
-use Rattle.std.proofs.Common.{◌≡◌, ℕ, ◌==◌, ◌&&◌, ◌⊎◌, Bool, true, false, not, List, [], ◌∷◌, ◌++◌, Option, Some, None, All, Contains, filter, map, if◌then◌else◌, refl, sym, ap, ◌∙◌, subst, inl, inr, append-nil}
+use Rattle.std.proofs.Common.{◌≡◌, ℕ, ◌==◌, ◌&&◌, ◌⊎◌, not, List, [], ◌∷◌, ◌++◌, Option, Some, None, Contains, filter, refl, sym, ap, ◌∙◌, subst, inl, inr, append-nil}
 use Rattle.std.specs.Option.{option_map_or}
 use Rattle.std.proofs.lemmas.List.Elements.{All-contains, Contains-append_left, Contains-append_right, filter-append}
 use Rattle.link_frames.specs.Frames.{Frame}
 use Rattle.link_admission.specs.Numbering.{among}
 use Rattle.node_graph.specs.Tree.{Tree}
-use Rattle.vfs_journal.specs.Entries.{Journal, Sent, sends, serves}
-use Rattle.vfs_journal.specs.History.{Event, History, bound_at, living, position_of, tree_at, trees_of}
+use Rattle.vfs_journal.specs.Entries.{Journal, Sent, serves}
+use Rattle.vfs_journal.specs.History.{Event, History, living, position_of, tree_at, trees_of}
 use Rattle.vfs_journal.specs.Lawful.{Lawful}
 use Rattle.vfs_journal.specs.Outcomes.{Forwarded, Outcome, close_frame}
 use Rattle.vfs_journal.specs.Output.{close_frames, frames_behind, frames_of_serving, is_message, rising}
 use Rattle.vfs_journal.specs.Past.{event_of, history_of}
 use Rattle.vfs_journal.specs.Serving.{moment_of, outcome_at, outcome_of, outcome_of_sending}
-use Rattle.vfs_journal.specs.Session.{after_serving, head, with_forward}
+use Rattle.vfs_journal.specs.Session.{after_serving, with_forward}
 use Rattle.vfs_journal.specs.Starts.{Bound, Start}
 use Rattle.vfs_journal.specs.Watching.{first_frames, told_frames}
-use Rattle.journal_laws.specs.Soundness.{IsStart}
 use Rattle.journal_laws.proofs.Below.{Below}
 use Rattle.journal_laws.proofs.Filters.{none_mapped}
-use Rattle.turn_law.specs.Counting.{KeepPremises}
-use Rattle.turn_law.specs.Invariant.{IsAnsweredStill, ServingsAreAnsweredStill, written_on}
-use Rattle.turn_law.specs.Premises.{MeetsNoLimit, TellsLimit}
+use Rattle.turn_law.specs.Invariant.{ServingsAreAnsweredStill, written_on}
+use Rattle.turn_law.specs.Premises.{TellsLimit}
 use Rattle.turn_law.specs.Quiet.{IsNoWatcher, IsStill, StaysStill}
 use Rattle.turn_law.specs.Room.{TellOfLimit}
-use Rattle.turn_law.specs.Steps.{AreSteps, Step, frames_in, journal_of, service}
+use Rattle.turn_law.specs.Steps.{frames_in, journal_of}
 use Rattle.turn_law.specs.Told.{messages_on, still}
 use Rattle.turn_law.proofs.Arrivals.{written_sent}
 use Rattle.turn_law.proofs.BySteps.{by_steps}

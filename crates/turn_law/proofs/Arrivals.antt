@@ -1,5 +1,5 @@
 -- At the beginning all endpoints agree with the table, and they do behind each frame that arrives.
-use Rattle.std.proofs.Common.{◌≡◌, ◌≢◌, ℕ, ◌==◌, ◌&&◌, ◌||◌, ◌⊎◌, Bool, true, false, not, is_some, List, [], ◌∷◌, ◌++◌, Option, Some, None, All, Contains, filter, find, if◌then◌else◌, refl, sym, ap, ◌∙◌, subst, inl, inr, append-nil}
+use Rattle.std.proofs.Common.{◌≡◌, ℕ, ◌==◌, ◌⊎◌, true, false, not, is_some, List, [], ◌∷◌, ◌++◌, Option, Some, None, All, filter, find, refl, sym, ap, ◌∙◌, inl, inr, append-nil}
 use Rattle.std.specs.Option.{option_map}
 use Rattle.std.proofs.lemmas.Bool.{and_parts, cases_Bool, eqb-false, eqb-true, false_from_ne_true, or_parts, true≢false}
 use Rattle.std.proofs.lemmas.List.Elements.{All-cons}
@@ -11,27 +11,25 @@ use Rattle.link_frames.specs.declared.kinds.Refusal.{Refusal}
 use Rattle.link_frames.specs.declared.kinds.Side.TheVariants.{ToServers}
 use Rattle.link_frames.specs.Frames.{Frame, IsFrame}
 use Rattle.link_admission.specs.Numbering.{among}
-use Rattle.conn_rules.specs.Births.{Position, fresh}
-use Rattle.vfs_journal.specs.Entries.{Journal, Sending, Sent, hang_up, message, refuses, sends}
+use Rattle.vfs_journal.specs.Entries.{Journal, Sent, hang_up, message, refuses, sends}
 use Rattle.vfs_journal.specs.History.{History, bound_at, is_bound, is_dead, is_live, living, travelling}
 use Rattle.vfs_journal.specs.Output.{frames_behind}
 use Rattle.vfs_journal.specs.Past.{event_of, history_of}
 use Rattle.vfs_journal.specs.Session.{admitted, by_refusal, look_ups, sent_behind}
 use Rattle.vfs_journal.specs.Starts.{Bound, Start}
-use Rattle.journal_laws.specs.Soundness.{IsStart}
 use Rattle.journal_laws.proofs.Below.{Below}
 use Rattle.journal_laws.proofs.Filters.{all_kept, all_of}
-use Rattle.journal_laws.proofs.Kept.{IsAdmitted, close_admitted, message_admitted, refusal_of}
+use Rattle.journal_laws.proofs.Kept.{close_admitted, message_admitted, refusal_of}
 use Rattle.journal_laws.proofs.Members.{contains_none, found}
-use Rattle.turn_law.specs.Counting.{KeepPremises, before, counting, counts_on}
-use Rattle.turn_law.specs.Invariant.{Agrees, AgreesOn, ArrivalsAgree, BeginningsAgree, IsAsTold, StepsKeepPremises, written_on}
-use Rattle.turn_law.specs.Steps.{AreSteps, CanArrive, Step, arrival, frames_in, is_sending, journal_of}
+use Rattle.turn_law.specs.Counting.{before, counting, counts_on}
+use Rattle.turn_law.specs.Invariant.{AgreesOn, ArrivalsAgree, BeginningsAgree, written_on}
+use Rattle.turn_law.specs.Steps.{CanArrive, frames_in, is_sending, journal_of}
 use Rattle.turn_law.specs.Told.{is_heard, messages_on, newborn, sending_by, table_of}
 use Rattle.turn_law.proofs.ArrivalsAgree.{alone_agrees, elsewhere, sent_agrees, unheard_agrees, written_same}
 use Rattle.turn_law.proofs.Hearing.{heard_parts, heard_where_counted, unheard_table}
 use Rattle.turn_law.proofs.Linked.{close_carries_none, travels_new}
 use Rattle.turn_law.proofs.LinkedSteps.{IsBeforeFrame, before_frame, only_there, refused_by, steps_are_frames}
-use Rattle.turn_law.proofs.StepsMade.{steps_lawful, with_sending}
+use Rattle.turn_law.proofs.StepsMade.{with_sending}
 
 -- ---- the beginning
 

@@ -1,28 +1,23 @@
 -- Endpoints agree with the table behind each frame that arrives.
-use Rattle.std.proofs.Common.{◌≡◌, ◌≢◌, ℕ, ◌==◌, ◌≤◌, ◌&&◌, ◌||◌, ◌⊎◌, Bool, true, false, not, is_some, List, [], ◌∷◌, ◌++◌, length, map, filter, filter_map, find, reverse, Option, Some, None, All, Contains, if◌then◌else◌, refl, sym, ap, ◌∙◌, subst, inl, inr, append-nil, arith}
+use Rattle.std.proofs.Common.{◌≡◌, ◌≢◌, ℕ, ◌==◌, ◌&&◌, ◌||◌, ◌⊎◌, Bool, true, false, is_some, List, [], ◌∷◌, ◌++◌, filter, filter_map, reverse, Option, Some, None, Contains, if◌then◌else◌, refl, sym, ap, ◌∙◌, subst, inl, inr, append-nil}
 use Rattle.std.specs.List.{list_all, list_any}
 use Rattle.std.specs.Prelude.{option_to_list}
-use Rattle.std.proofs.lemmas.Bool.{and_parts, cases_Bool, eq-eqb, eqb-false, eqb-true, false_from_ne_true, ne_eqb, or_left, or_parts, true≢false}
+use Rattle.std.proofs.lemmas.Bool.{cases_Bool, eq-eqb, eqb-false, eqb-true, false_from_ne_true, ne_eqb, or_left, or_parts, true≢false}
 use Rattle.std.proofs.lemmas.List.{map-append}
-use Rattle.std.proofs.lemmas.List.Elements.{All-head, All-tail, Contains-append_cases, filter-append}
+use Rattle.std.proofs.lemmas.List.Elements.{Contains-append_cases, filter-append}
 use Rattle.fidl_names.specs.HandleNumber.{is_client}
-use Rattle.link_admission.specs.Admission.{admission}
-use Rattle.link_frames.specs.declared.kinds.FrameKind.{FrameKind}
-use Rattle.link_frames.specs.declared.kinds.FrameKind.TheVariants as kind
 use Rattle.link_frames.specs.declared.kinds.Refusal.{Refusal}
-use Rattle.link_frames.specs.declared.kinds.Side.TheVariants.{ToServers}
-use Rattle.link_frames.specs.Frames.{Frame, IsFrame}
+use Rattle.link_frames.specs.Frames.{Frame}
 use Rattle.link_admission.specs.Numbering.{among}
 use Rattle.link_frames.specs.Refusals.{refused_frame}
 use Rattle.conn_rules.specs.Births.{Position}
-use Rattle.vfs_journal.specs.Entries.{Journal, Sending, Sent, endpoints_in, handles_of, hang_up, message, refuses, sends}
+use Rattle.vfs_journal.specs.Entries.{Journal, Sending, Sent, endpoints_in, handles_of, refuses, sends}
 use Rattle.vfs_journal.specs.History.{History, all_sent, bound_at, is_bound, is_dead, is_live, is_used, living, position_of, waiting, was_carried}
 use Rattle.vfs_journal.specs.Lawful.{Lawful}
 use Rattle.vfs_journal.specs.Output.{frames_behind, is_message}
 use Rattle.vfs_journal.specs.Past.{event_of, history_of}
-use Rattle.vfs_journal.specs.Session.{look_ups, sent_behind}
+use Rattle.vfs_journal.specs.Session.{sent_behind}
 use Rattle.vfs_journal.specs.Starts.{Bound, Start}
-use Rattle.vfs_journal.specs.Tokens.{all_given}
 use Rattle.journal_laws.specs.Soundness.{Carries, IsStart}
 use Rattle.journal_laws.proofs.Among.{carried_from, carried_is}
 use Rattle.journal_laws.proofs.Below.{Below}
@@ -42,7 +37,7 @@ use Rattle.turn_law.specs.Premises.{HandlesStandOnce}
 use Rattle.turn_law.specs.Tables.{SaySame}
 use Rattle.turn_law.specs.Told.{is_new, messages_on, sending_by, table_of}
 use Rattle.turn_law.proofs.Arriving.{counted_more, told_counted, told_uncounted, uncounted_more, unnamed_counting, unnamed_untold}
-use Rattle.turn_law.proofs.Linked.{live_behind, live_same, live_used, once_carried, or_none}
+use Rattle.turn_law.proofs.Linked.{live_behind, live_same, live_used, once_carried}
 use Rattle.turn_law.proofs.Touching.{frames_touch}
 
 -- ---- what is said alike is told alike

@@ -1,32 +1,23 @@
 -- The invariant behind a frame that arrives.
-use Rattle.std.proofs.Common.{◌≡◌, ◌≢◌, ℕ, zero, suc, ◌+◌, ◌≤◌, ◌==◌, ◌&&◌, ◌||◌, ◌⊎◌, Bool, true, false, not, is_some, List, [], ◌∷◌, ◌++◌, length, map, filter, filter_map, find, reverse, take, Option, Some, None, All, Contains, if◌then◌else◌, refl, sym, ap, ◌∙◌, subst, inl, inr, append-nil, append_assoc, length-append, arith}
+use Rattle.std.proofs.Common.{◌≡◌, ℕ, zero, suc, ◌==◌, ◌&&◌, ◌||◌, Bool, true, false, not, is_some, List, [], ◌∷◌, ◌++◌, length, filter_map, reverse, take, Option, Some, None, if◌then◌else◌, refl, sym, ap, ◌∙◌, length-append, arith}
 use Rattle.std.specs.List.{list_all, list_any}
-use Rattle.std.specs.Option.{option_map}
 use Rattle.std.specs.Prelude.{option_to_list}
-use Rattle.std.proofs.lemmas.Bool.{and_parts, eq-eqb, eqb-false, eqb-true, false_from_ne_true, ne_eqb, or_parts, true≢false}
+use Rattle.std.proofs.lemmas.Bool.{eqb-false, eqb-true, or_parts, true≢false}
 use Rattle.std.proofs.lemmas.List.{map-append}
-use Rattle.std.proofs.lemmas.List.Elements.{All-head, All-tail, Contains-append_cases}
 use Rattle.fidl_names.specs.HandleNumber.{is_client}
 use Rattle.wire_laws.specs.Laws.{SpelledWhereRead}
-use Rattle.link_frames.specs.declared.kinds.FrameKind.{FrameKind}
-use Rattle.link_frames.specs.declared.kinds.FrameKind.TheVariants as kind
-use Rattle.link_frames.specs.declared.kinds.Refusal.{Refusal}
-use Rattle.link_frames.specs.declared.kinds.Side.TheVariants.{ToServers}
-use Rattle.link_frames.specs.Frames.{Frame, IsFrame}
+use Rattle.link_frames.specs.Frames.{Frame}
 use Rattle.link_admission.specs.Numbering.{among}
 use Rattle.conn_rules.specs.Births.{Position}
-use Rattle.vfs_journal.specs.Entries.{Journal, Sending, Sent, endpoints_in, handles_of, hang_up, message, refuses, sends}
-use Rattle.vfs_journal.specs.History.{History, bound_at, is_live, living, position_of, waiting}
-use Rattle.vfs_journal.specs.Past.{history_of}
+use Rattle.vfs_journal.specs.Entries.{Sending, Sent}
 use Rattle.vfs_journal.specs.Starts.{Bound, Start}
-use Rattle.journal_laws.specs.Soundness.{Carries, IsStart}
+use Rattle.journal_laws.specs.Soundness.{IsStart}
 use Rattle.journal_laws.proofs.Lists.{filter_map-more}
-use Rattle.journal_laws.proofs.Members.{found}
 use Rattle.turn_law.specs.Counting.{before, counting, counts_on, is_close, is_named, is_open, last_sendings}
-use Rattle.turn_law.specs.Invariant.{AgreesOn, IsAsTold, IsGone, TravelsAs, queue_on, sendings_of, written_on}
+use Rattle.turn_law.specs.Invariant.{IsAsTold}
 use Rattle.turn_law.specs.Tables.{SaySame}
 use Rattle.turn_law.specs.Told.{is_heard, is_new, sending_by, table_of}
-use Rattle.turn_law.proofs.Hearing.{first_open, some_life, unheard_table}
+use Rattle.turn_law.proofs.Hearing.{first_open, unheard_table}
 use Rattle.turn_law.proofs.Touching.{frames_touch}
 
 -- ---- what no frame names

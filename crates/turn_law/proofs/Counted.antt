@@ -1,9 +1,8 @@
 -- The frame that waits first on an endpoint: the table before it, and that nothing is said of the endpoint until the next frame that counts.
-use Rattle.std.proofs.Common.{◌≡◌, ◌≢◌, ℕ, zero, suc, ◌<◌, ◌≤◌, ◌==◌, ◌&&◌, ◌||◌, ◌⊎◌, Bool, true, false, not, is_some, List, [], ◌∷◌, ◌++◌, length, filter_map, reverse, take, Option, Some, None, All, if◌then◌else◌, refl, sym, ap, ◌∙◌, subst, inl, inr, append-nil, append_assoc, arith}
-use Rattle.std.specs.List.{list_all, list_any}
+use Rattle.std.proofs.Common.{◌≡◌, ℕ, zero, suc, ◌<◌, ◌==◌, ◌&&◌, ◌⊎◌, Bool, true, false, is_some, List, [], ◌∷◌, ◌++◌, length, filter_map, reverse, take, All, if◌then◌else◌, refl, sym, ap, ◌∙◌, inl, inr, append-nil, append_assoc, arith}
 use Rattle.std.specs.Prelude.{option_to_list}
-use Rattle.std.proofs.lemmas.Bool.{and_parts, cases_Bool, eqb-false, eqb-true, false_from_ne_true, or_cases, or_left, or_right, true≢false}
-use Rattle.std.proofs.lemmas.List.Elements.{All-head, All-tail}
+use Rattle.std.proofs.lemmas.Bool.{and_parts, cases_Bool, eqb-false, eqb-true, false_from_ne_true, true≢false}
+use Rattle.std.proofs.lemmas.List.Elements.{All-tail}
 use Rattle.fidl_names.specs.HandleNumber.{is_client}
 use Rattle.wire_laws.specs.Laws.{SpelledWhereRead}
 use Rattle.link_frames.specs.declared.kinds.Side.TheVariants.{ToServers}

@@ -1,5 +1,5 @@
 -- What goes on behind a mount is an Open, in whatever moment; it leaves the mount's end as it was, and writes on its object alone.
-use Rattle.std.proofs.Common.{◌≡◌, ℕ, ◌^◌, ◌<◌, ◌==◌, ◌||◌, ◌⊎◌, Bool, true, false, List, [], ◌∷◌, ◌++◌, Option, Some, None, Result, Ok, Err, refl, sym, ap, ◌∙◌, subst}
+use Rattle.std.proofs.Common.{◌≡◌, ℕ, ◌^◌, ◌<◌, List, ◌++◌, Option, Some, None, Ok, Err, refl, sym, subst}
 use Rattle.fidl_names.specs.First.{first_of}
 use Rattle.fidl_names.specs.declared.methods.Method.{Method}
 use Rattle.fidl_names.specs.declared.methods.Method.TheVariants as method
@@ -19,17 +19,17 @@ use Rattle.path_walk.specs.Paths.{IsPath, names_of, text_of}
 use Rattle.conn_rules.specs.Onward.{onward_bytes}
 use Rattle.conn_rules.specs.declared.births.Room.{Room}
 use Rattle.conn_rules.specs.Acts.{act_of, method_refusals}
-use Rattle.conn_rules.specs.Answers.{Act, Answer, binds, closes, ends, failure_of, forwards, hangs_up, only, refuses, replies, silent, watches}
+use Rattle.conn_rules.specs.Answers.{Act, Answer, binds, closes, ends, forwards, hangs_up, refuses, replies, silent, watches}
 use Rattle.conn_rules.specs.Births.{Position}
 use Rattle.conn_rules.specs.Contexts.{Context}
 use Rattle.conn_rules.specs.Nodes.{kind_here}
 use Rattle.conn_rules.specs.Opens.{arrival_refusals, by_walk, entry_refusals, making_refusals, open_act}
 use Rattle.conn_rules.specs.Refusals.{unless}
 use Rattle.conn_rules.specs.Walks.{Walk, arrives, crosses, missing, stops, walk}
-use Rattle.vfs_journal.specs.Entries.{Sending, hang_up, handles_of, message}
-use Rattle.vfs_journal.specs.Outcomes.{Asker, Forwarded, Outcome, forward_of, outcome_with}
+use Rattle.vfs_journal.specs.Entries.{Sending, hang_up, message}
+use Rattle.vfs_journal.specs.Outcomes.{Asker, Forwarded, forward_of}
 use Rattle.vfs_journal.specs.Serving.{Moment, Read, asker_of, context_at, fault_answer, fault_txid, object_of, outcome_of_message, outcome_of_read, outcome_of_sending, read_by, request_act}
-use Rattle.journal_laws.proofs.Acts.{GoesOn, IsAnswer, IsClone, IsClose, IsOpenAnswer, IsReply, IsToken, IsWatch, act_answers, unless_holds}
+use Rattle.journal_laws.proofs.Acts.{IsAnswer, IsClone, IsClose, IsOpenAnswer, IsReply, IsToken, IsWatch, act_answers}
 use Rattle.journal_laws.proofs.Below.{Below}
 use Rattle.journal_laws.proofs.Onward.{path_left}
 use Rattle.journal_laws.proofs.Requests.{Carries, carries}

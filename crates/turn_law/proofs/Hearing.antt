@@ -1,8 +1,8 @@
 -- A frame is heard where its endpoint has a life and it counts, and what no frame names has no life and is told nothing.
-use Rattle.std.proofs.Common.{◌≡◌, ◌≢◌, ℕ, zero, suc, ◌==◌, ◌&&◌, ◌||◌, ◌⊎◌, Bool, true, false, not, is_some, List, [], ◌∷◌, ◌++◌, Option, Some, None, All, Contains, find, if◌then◌else◌, refl, sym, ap, ◌∙◌, subst, inl, inr}
+use Rattle.std.proofs.Common.{◌≡◌, ℕ, ◌==◌, ◌&&◌, ◌||◌, ◌⊎◌, Bool, true, false, not, is_some, List, [], ◌∷◌, ◌++◌, Option, Some, None, All, Contains, find, if◌then◌else◌, refl, sym, ap, ◌∙◌, inl, inr}
 use Rattle.std.specs.List.{list_all, list_any}
 use Rattle.std.specs.Option.{option_map, option_map_or}
-use Rattle.std.proofs.lemmas.Bool.{and_parts, cases_Bool, eq-eqb, eqb-false, eqb-true, false_from_ne_true, or_left, or_parts, or_right, true≢false}
+use Rattle.std.proofs.lemmas.Bool.{and_parts, eq-eqb, eqb-false, eqb-true, false_from_ne_true, or_left, or_right, true≢false}
 use Rattle.std.proofs.lemmas.List.Elements.{All-contains, All-head, All-tail, Contains-append_cases}
 use Rattle.fidl_names.specs.HandleNumber.{is_client}
 use Rattle.wire_laws.specs.Laws.{SpelledWhereRead}
@@ -13,7 +13,6 @@ use Rattle.link_frames.specs.Frames.{Frame, IsFrame}
 use Rattle.link_admission.specs.Numbering.{among}
 use Rattle.conn_rules.specs.Births.{Position}
 use Rattle.vfs_journal.specs.Entries.{hang_up}
-use Rattle.vfs_journal.specs.Outcomes.{Outcome}
 use Rattle.vfs_journal.specs.Serving.{outcome_of_sending}
 use Rattle.vfs_journal.specs.Starts.{Bound, Start}
 use Rattle.vfs_journal.specs.View.{moved}
@@ -21,10 +20,10 @@ use Rattle.journal_laws.specs.Soundness.{IsStart}
 use Rattle.journal_laws.proofs.Among.{member_of, passes_any}
 use Rattle.journal_laws.proofs.Members.{found}
 use Rattle.turn_law.specs.Counting.{FramesAreHeardWhereTheyCount, counts_on, is_close, is_open}
-use Rattle.turn_law.specs.Told.{Table, answers, behind_frame, by_answer, is_heard, is_new, newborn, onward, sending_by, sent_on, still, table_at_start, table_of}
-use Rattle.turn_law.proofs.Linked.{close_has_none, and_true}
+use Rattle.turn_law.specs.Told.{Table, answers, by_answer, is_heard, is_new, newborn, sending_by, sent_on, still, table_at_start, table_of}
+use Rattle.turn_law.proofs.Linked.{close_has_none}
 use Rattle.turn_law.proofs.LinkedSteps.{new_each, open_client}
-use Rattle.turn_law.proofs.Touching.{AreNamed, frames_touch, pair_same, table_named}
+use Rattle.turn_law.proofs.Touching.{frames_touch, table_named}
 
 -- ---- what a hang-up does
 

@@ -1,9 +1,8 @@
 -- In the table the ends of mounts stay as they were at the start, and are told nothing.
-use Rattle.std.proofs.Common.{◌≡◌, ◌≢◌, ℕ, zero, suc, ◌==◌, ◌&&◌, ◌||◌, ◌⊎◌, Bool, true, false, List, [], ◌∷◌, ◌++◌, Option, Some, None, Ok, All, Contains, find, if◌then◌else◌, refl, sym, ap, ◌∙◌, subst, inl, inr, append-nil}
-use Rattle.std.specs.List.{list_all}
+use Rattle.std.proofs.Common.{◌≡◌, ◌≢◌, ℕ, zero, suc, ◌==◌, ◌||◌, Bool, true, false, List, [], ◌∷◌, ◌++◌, Option, Some, None, All, find, if◌then◌else◌, refl, sym, ap, ◌∙◌, subst, append-nil}
 use Rattle.std.specs.Option.{option_map, option_map_or}
-use Rattle.std.proofs.lemmas.Bool.{and_parts, cases_Bool, eqb-false, eqb-true, false_from_ne_true, ne_eqb, true≢false}
-use Rattle.std.proofs.lemmas.List.Elements.{All-cons, All-contains, All-head, All-nil, All-tail, All-weaker, Contains-append_cases, Contains-append_right}
+use Rattle.std.proofs.lemmas.Bool.{and_parts, eqb-true, false_from_ne_true, ne_eqb, true≢false}
+use Rattle.std.proofs.lemmas.List.Elements.{All-cons, All-contains, All-nil, All-weaker}
 use Rattle.fidl_names.specs.HandleNumber.{is_client}
 use Rattle.link_frames.specs.declared.kinds.FrameKind.{FrameKind}
 use Rattle.link_frames.specs.declared.kinds.FrameKind.TheVariants as kind
@@ -19,7 +18,7 @@ use Rattle.conn_rules.specs.Answers.{Act, Answer, binds, closes, ends, forwards,
 use Rattle.conn_rules.specs.Births.{Position, fresh}
 use Rattle.vfs_journal.specs.Entries.{Sending, hang_up, handles_of, message}
 use Rattle.vfs_journal.specs.Outcomes.{Asker, Forwarded, Outcome, outcome_with}
-use Rattle.vfs_journal.specs.Serving.{Moment, Read, asker_of, context_at, outcome_of_message, outcome_of_read, outcome_of_sending, read_by, request_act}
+use Rattle.vfs_journal.specs.Serving.{Moment, asker_of, context_at, outcome_of_message, outcome_of_read, outcome_of_sending, request_act}
 use Rattle.vfs_journal.specs.Session.{weight_of}
 use Rattle.vfs_journal.specs.Starts.{Bound, Start}
 use Rattle.vfs_journal.specs.View.{moved}
@@ -29,7 +28,7 @@ use Rattle.journal_laws.proofs.Among.{member_of}
 use Rattle.journal_laws.proofs.Below.{Below}
 use Rattle.journal_laws.proofs.Members.{found}
 use Rattle.journal_laws.proofs.Onward.{onward_reads}
-use Rattle.turn_law.specs.Told.{Table, answered, answers, behind_frame, by_answer, is_heard, is_new, messages_on, newborn, onward, sending_by, sent_on, still, table_at_start, table_of}
+use Rattle.turn_law.specs.Told.{Table, answered, answers, behind_frame, by_answer, is_heard, newborn, onward, sending_by, sent_on, still, table_at_start, table_of}
 use Rattle.turn_law.specs.Tables.{SaySame}
 use Rattle.turn_law.proofs.Forwards.{IsOnward, open_position, sending_onward}
 use Rattle.turn_law.proofs.Hearing.{heard_parts}

@@ -1,7 +1,7 @@
 -- What the table says of a client's endpoint behind what was served on it.
-use Rattle.std.proofs.Common.{◌≡◌, ◌≢◌, ℕ, zero, suc, ◌+◌, ◌<◌, ◌==◌, ◌&&◌, Bool, true, false, List, [], ◌∷◌, ◌++◌, length, sum_by, Option, Some, None, if◌then◌else◌, refl, sym, ap, ◌∙◌, subst, arith}
-use Rattle.std.specs.Option.{option_map, option_map_or}
-use Rattle.std.proofs.lemmas.Bool.{eq-eqb, false_from_ne_true, true≢false}
+use Rattle.std.proofs.Common.{◌≡◌, ℕ, zero, suc, ◌<◌, Bool, true, false, List, [], ◌∷◌, ◌++◌, length, Option, Some, None, if◌then◌else◌, refl, ap, ◌∙◌, arith}
+use Rattle.std.specs.Option.{option_map}
+use Rattle.std.proofs.lemmas.Bool.{eq-eqb}
 use Rattle.fidl_names.specs.HandleNumber.{is_client}
 use Rattle.wire_laws.specs.Laws.{SpelledWhereRead}
 use Rattle.link_frames.specs.Frames.{Frame}
@@ -17,7 +17,7 @@ use Rattle.journal_laws.proofs.Members.{contains_here}
 use Rattle.journal_laws.proofs.Weights.{something_weighs}
 use Rattle.turn_law.specs.Counting.{before}
 use Rattle.turn_law.specs.Tables.{SaySame}
-use Rattle.turn_law.specs.Told.{Table, answered, answers, by_answer, messages_on, newborn, onward, sent_on, still, table_of}
+use Rattle.turn_law.specs.Told.{Table, answered, answers, by_answer, messages_on, newborn, onward, still, table_of}
 use Rattle.turn_law.proofs.Heads.{IsHead}
 use Rattle.turn_law.proofs.Touching.{AreNamed, answered_named, answers_touch, onward_touches, table_named, then_same, unbound_by}
 use Rattle.turn_law.proofs.Within.{StaysWithin, sending_within}

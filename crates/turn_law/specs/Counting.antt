@@ -11,12 +11,11 @@ use Rattle.link_admission.specs.Numbering.{among}
 use Rattle.vfs_journal.specs.Entries.{Journal, Sending}
 use Rattle.vfs_journal.specs.History.{History, hung_up, is_live, is_used}
 use Rattle.vfs_journal.specs.Output.{frames_behind}
-use Rattle.vfs_journal.specs.Past.{history_of}
 use Rattle.vfs_journal.specs.Session.{look_ups}
 use Rattle.vfs_journal.specs.Starts.{Start}
 use Rattle.journal_laws.specs.Soundness.{IsStart}
 use Rattle.turn_law.specs.Premises.{ChangeNothing, HandlesStandOnce, MeetsNoLimit}
-use Rattle.turn_law.specs.Steps.{AreSteps, Step, arrival, frames_in, is_sending, journal_of}
+use Rattle.turn_law.specs.Steps.{AreSteps, Step, arrival, frames_in, is_sending, journal_of, past_of}
 use Rattle.turn_law.specs.Told.{is_heard, is_new, sending_by, table_of}
 
 -- ---- what counts, as far as frames say
@@ -51,10 +50,13 @@ before start endpoint (suc ahead) [] = []
 before start endpoint (suc ahead) (frame ∷ earlier) =
     if counts_on start endpoint earlier frame then before start endpoint ahead earlier else before start endpoint (suc ahead) earlier
 
+-- what frames send, of which the newest stands first, in their order
+abbrev pub sendings_in : List Frame → List Sending
+sendings_in frames = filter_map (λ frame. sending_by frame.kind frame) (reverse frames)
+
 -- what the last so many send, in their order
 abbrev pub last_sendings : Start → ℕ → ℕ → List Frame → List Sending
-last_sendings start endpoint ahead frames =
-    filter_map (λ frame. sending_by frame.kind frame) (reverse (take ahead (counting start endpoint frames)))
+last_sendings start endpoint ahead frames = sendings_in (take ahead (counting start endpoint frames))
 
 -- ---- laws
 
@@ -66,33 +68,39 @@ pub record KeepPremises (start : Start) (journal : Journal) (frames : List Frame
 
 -- a first connection, or a number that a frame carried
 abbrev pub is_named : Start → List Frame → ℕ → Bool
-is_named start frames number = list_any (λ bound. bound.endpoint == number) start.firsts || list_any (λ frame. among number frame.handles) frames
+is_named start frames number =
+    list_any (λ bound. bound.endpoint == number) start.firsts || list_any (λ frame. among number frame.handles) frames
 
 -- frames count on a client's endpoint that is live where nobody hung up on it, and what was used was named
 pub record AreLinked (start : Start) (history : History) (frames : List Frame) : Type 0 where
-  pub opens : (endpoint : ℕ) → is_client endpoint ≡ true → is_live start history endpoint ≡ true → is_open start endpoint frames ≡ not (hung_up history endpoint)
+  pub opens : (endpoint : ℕ) → is_client endpoint ≡ true → is_live start history endpoint ≡ true →
+      is_open start endpoint frames ≡ not (hung_up history endpoint)
   pub named : (number : ℕ) → is_used start history number ≡ true → is_named start frames number ≡ true
 
 abbrev pub FramesAreLinked : Type 0
 FramesAreLinked =
-    (start : Start) (steps : List Step) → IsStart start → AreSteps start steps → KeepPremises start (journal_of start steps) (frames_in steps) →
-    AreLinked start (history_of start (journal_of start steps)) (frames_in steps)
+    (start : Start) (steps : List Step) → IsStart start → AreSteps start steps →
+    KeepPremises start (journal_of start steps) (frames_in steps) → AreLinked start (past_of start steps) (frames_in steps)
 
 -- a frame is admitted where its endpoint is live and it counts there
 pub record IsAdmittedJustThere (start : Start) (steps : List Step) (frame : Frame) : Type 0 where
-  pub only : admission (look_ups start (history_of start (journal_of start steps))) frame ≡ None →
-      (is_live start (history_of start (journal_of start steps)) frame.endpoint ≡ true) × (counts_on start frame.endpoint (frames_in steps) frame ≡ true)
-  pub there : is_live start (history_of start (journal_of start steps)) frame.endpoint ≡ true → counts_on start frame.endpoint (frames_in steps) frame ≡ true →
-      admission (look_ups start (history_of start (journal_of start steps))) frame ≡ None
+  pub only : admission (look_ups start (past_of start steps)) frame ≡ None →
+      (is_live start (past_of start steps) frame.endpoint ≡ true) × (counts_on start frame.endpoint (frames_in steps) frame ≡ true)
+  pub there : is_live start (past_of start steps) frame.endpoint ≡ true →
+      counts_on start frame.endpoint (frames_in steps) frame ≡ true →
+      admission (look_ups start (past_of start steps)) frame ≡ None
 
 -- what doesn't count is refused; and what counts is refused only where its endpoint is dead, or was carried by what was refused
 abbrev pub FramesThatCountAreAdmitted : Type 0
 FramesThatCountAreAdmitted =
-    (start : Start) (steps : List Step) (frame : Frame) → IsStart start → AreSteps start (arrival frame ∷ steps) → is_sending frame.kind ≡ true →
-    KeepPremises start (journal_of start (arrival frame ∷ steps)) (frames_in (arrival frame ∷ steps)) → IsAdmittedJustThere start steps frame
+    (start : Start) (steps : List Step) (frame : Frame) → IsStart start → AreSteps start (arrival frame ∷ steps) →
+    is_sending frame.kind ≡ true →
+    KeepPremises start (journal_of start (arrival frame ∷ steps)) (frames_in (arrival frame ∷ steps)) →
+    IsAdmittedJustThere start steps frame
 
 -- a frame is heard where its endpoint has a life, and the frame counts there
 abbrev pub FramesAreHeardWhereTheyCount : Type 0
 FramesAreHeardWhereTheyCount =
     (start : Start) (frame : Frame) (earlier : List Frame) → IsStart start → All (IsFrame ToServers) (frame ∷ earlier) →
-    is_heard start (table_of start earlier) frame ≡ (is_some ((table_of start earlier).life frame.endpoint) && counts_on start frame.endpoint earlier frame)
+    is_heard start (table_of start earlier) frame
+    ≡ (is_some ((table_of start earlier).life frame.endpoint) && counts_on start frame.endpoint earlier frame)

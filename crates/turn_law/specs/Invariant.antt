@@ -11,7 +11,7 @@
 --  - any other endpoint has no life now, and was told what was written on it; nothing more can be heard on it, for whatever carried it is past
 --    (`IsGone`).
 -- Behind a drain nothing waits and nothing travels, so each endpoint was told what the table says.
-use Rattle.std.specs.Prelude.{◌≡◌, ◌==◌, true, false, ℕ, List, [], ◌∷◌, ◌++◌, filter, filter_map, length, map, reverse, Option, Some, None}
+use Rattle.std.specs.Prelude.{◌≡◌, ◌==◌, true, false, ℕ, List, [], ◌∷◌, ◌++◌, filter, length, map, Option, Some, None}
 use Rattle.fidl_names.specs.HandleNumber.{is_client}
 use Rattle.link_frames.specs.Frames.{Frame}
 use Rattle.link_admission.specs.Numbering.{among}
@@ -24,10 +24,10 @@ use Rattle.vfs_journal.specs.Serving.{outcome_of, outcome_of_sending}
 use Rattle.vfs_journal.specs.Session.{after_serving}
 use Rattle.vfs_journal.specs.Starts.{Bound, Start}
 use Rattle.journal_laws.specs.Soundness.{Carries, IsStart}
-use Rattle.turn_law.specs.Counting.{KeepPremises, before, counting, counts_on, last_sendings}
-use Rattle.turn_law.specs.Steps.{AreSteps, Step, arrival, frames_in, journal_of, service}
+use Rattle.turn_law.specs.Counting.{KeepPremises, before, counting, counts_on, last_sendings, sendings_in}
+use Rattle.turn_law.specs.Steps.{AreSteps, Step, arrival, frames_in, journal_of, past_of, service}
 use Rattle.turn_law.specs.Tables.{SaySame}
-use Rattle.turn_law.specs.Told.{Table, is_heard, messages_on, sending_by, sent_on, still, table_at_start, table_of}
+use Rattle.turn_law.specs.Told.{is_heard, messages_on, sending_by, sent_on, still, table_at_start, table_of}
 
 -- ---- in the journal
 
@@ -46,7 +46,8 @@ written_on start journal endpoint = messages_on endpoint (frames_behind start jo
 -- ---- the invariant, of one endpoint
 
 -- who is bound, with what waits there, the position and what was written, is as frames tell
-pub record IsAsTold (start : Start) (frames : List Frame) (bound : Bound) (queue : List Sent) (position : Position) (written : List Frame) : Type 0 where
+pub record IsAsTold (start : Start) (frames : List Frame) (bound : Bound) (queue : List Sent) (position : Position)
+    (written : List Frame) : Type 0 where
   pub waits : sendings_of queue ≡ last_sendings start bound.endpoint (length queue) frames
   pub life : (table_of start (before start bound.endpoint (length queue) frames)).life bound.endpoint ≡ Some (bound, position)
   pub told : (table_of start (before start bound.endpoint (length queue) frames)).told bound.endpoint ≡ written
@@ -74,7 +75,7 @@ Comes start endpoint frame earlier one (Some origin) = IsRestOf start endpoint f
 
 -- an endpoint that an entry carries
 pub record TravelsAs (start : Start) (journal : Journal) (frames : List Frame) (endpoint : ℕ) (one : Sent) : Type 0 where
-  pub queue : sendings_of (queue_on (history_of start journal) endpoint) ≡ filter_map (λ frame. sending_by frame.kind frame) (reverse (counting start endpoint frames))
+  pub queue : sendings_of (queue_on (history_of start journal) endpoint) ≡ sendings_in (counting start endpoint frames)
   pub silent : written_on start journal endpoint ≡ []
   pub later : List Frame
   pub frame : Frame
@@ -113,22 +114,24 @@ BeginningsAgree = (start : Start) → IsStart start → Agrees start []
 -- and they do so behind each frame that arrives
 abbrev pub ArrivalsAgree : Type 0
 ArrivalsAgree =
-    (start : Start) (steps : List Step) (frame : Frame) → IsStart start → AreSteps start (arrival frame ∷ steps) → StepsKeepPremises start (arrival frame ∷ steps) →
-    Agrees start steps → Agrees start (arrival frame ∷ steps)
+    (start : Start) (steps : List Step) (frame : Frame) → IsStart start → AreSteps start (arrival frame ∷ steps) →
+    StepsKeepPremises start (arrival frame ∷ steps) → Agrees start steps → Agrees start (arrival frame ∷ steps)
 
 -- where they agree and nothing waits, what was written on each endpoint is what it is told
 abbrev pub WhereNothingWaitsAllIsTold : Type 0
 WhereNothingWaitsAllIsTold =
-    (start : Start) (steps : List Step) (endpoint : ℕ) → IsStart start → Agrees start steps → waiting (history_of start (journal_of start steps)) ≡ [] →
+    (start : Start) (steps : List Step) (endpoint : ℕ) → IsStart start → Agrees start steps → waiting (past_of start steps) ≡ [] →
     written_on start (journal_of start steps) endpoint ≡ (table_of start (frames_in steps)).told endpoint
 
 -- a serving is answered as in a moment of the table, and on each endpoint the messages of the answer are what is written
 pub record IsAnsweredStill (start : Start) (journal : Journal) (one : Sent) (bound : Bound) : Type 0 where
-  pub outcome : outcome_of start (history_of start journal) one ≡ outcome_of_sending (still start (bound, position_of (history_of start journal) bound.endpoint)) one.sending
+  pub outcome : outcome_of start (history_of start journal) one
+      ≡ outcome_of_sending (still start (bound, position_of (history_of start journal) bound.endpoint)) one.sending
   pub written : (endpoint : ℕ) → written_on start (after_serving start journal one) endpoint
       ≡ written_on start journal endpoint ++ messages_on endpoint (outcome_of start (history_of start journal) one).frames
 
 abbrev pub ServingsAreAnsweredStill : Type 0
 ServingsAreAnsweredStill =
-    (start : Start) (steps : List Step) (one : Sent) (bound : Bound) → IsStart start → AreSteps start (service one ∷ steps) → StepsKeepPremises start (service one ∷ steps) →
-    bound_at start (history_of start (journal_of start steps)) one.endpoint ≡ Some bound → IsAnsweredStill start (journal_of start steps) one bound
+    (start : Start) (steps : List Step) (one : Sent) (bound : Bound) → IsStart start → AreSteps start (service one ∷ steps) →
+    StepsKeepPremises start (service one ∷ steps) →
+    bound_at start (past_of start steps) one.endpoint ≡ Some bound → IsAnsweredStill start (journal_of start steps) one bound

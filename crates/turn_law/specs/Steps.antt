@@ -8,6 +8,7 @@ use Rattle.link_frames.specs.declared.kinds.Refusal.{Refusal}
 use Rattle.link_frames.specs.declared.kinds.Side.TheVariants.{ToServers}
 use Rattle.link_frames.specs.Frames.{Frame, IsFrame}
 use Rattle.vfs_journal.specs.Entries.{Journal, Sent}
+use Rattle.vfs_journal.specs.History.{History}
 use Rattle.vfs_journal.specs.Lawful.{Lawful}
 use Rattle.vfs_journal.specs.Past.{history_of}
 use Rattle.vfs_journal.specs.Session.{after_serving, arrives, ended, head, look_ups, session}
@@ -23,6 +24,10 @@ unfoldable pub journal_of : Start → List Step → Journal
 journal_of start [] = []
 journal_of start (arrival frame ∷ earlier) = arrives start (journal_of start earlier) frame
 journal_of start (service sent ∷ earlier) = after_serving start (journal_of start earlier) sent
+
+-- and its past
+abbrev pub past_of : Start → List Step → History
+past_of start steps = history_of start (journal_of start steps)
 
 -- a frame sends something, if it is admitted
 abbrev pub is_sending : FrameKind → Bool

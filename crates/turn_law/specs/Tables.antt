@@ -14,5 +14,6 @@ pub record SaySame (endpoint : ℕ) (one other : Table) : Type 0 where
 -- a frame changes nothing of a client's endpoint that it neither is sent on nor carries
 abbrev pub FramesTouchTheirOwn : Type 0
 FramesTouchTheirOwn =
-    (start : Start) (frame : Frame) (earlier : List Frame) (endpoint : ℕ) → is_client endpoint ≡ true → frame.endpoint ≢ endpoint → among endpoint frame.handles ≡ false →
+    (start : Start) (frame : Frame) (earlier : List Frame) (endpoint : ℕ) → is_client endpoint ≡ true →
+    frame.endpoint ≢ endpoint → among endpoint frame.handles ≡ false →
     SaySame endpoint (table_of start (frame ∷ earlier)) (table_of start earlier)

@@ -24,7 +24,8 @@ pub fn sessions_are_steps()
     ensures { SessionsAreSteps }
 {}
 
-/// A request that changes nothing, on a server with its first tree, is answered as if nothing else were in use, or its answer tells of a limit.
+/// A request that changes nothing, on a server with its first tree, is answered as if nothing else were in use, or its answer tells of a
+/// limit.
 pub fn answers_are_still()
     ensures { AnswersAreStill }
 {}
