@@ -181,7 +181,7 @@ module _ (index : ℕ) (graph changed : Kept) (connections now : Connections) (s
         (λ old there.
         let one = served old there in
         can_settle old_one mid_one moment _ before behind asking.endpoint asking.token sent.handles.now numbered takes deed did one.3.taken one.3.next)
-        (λ none. subst (CanSettle mid_one) (sym (passed_over none).fate) tt)
+        (λ none. subst (CanSettle mid_one) (sym (passed_over none).deed) tt)
 
     pub serves_now : (new : Server) (fate : Fate) → Settles mid_one deed fate new → (moment : Moment) → IsMomentOf old_one asking.endpoint asking.token (numbers_of sent.handles.now) moment →
         Serves moment (outcome_of_sending moment (message_of sent)) fate old_one new before behind

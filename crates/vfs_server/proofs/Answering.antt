@@ -140,7 +140,7 @@ module _ (graph : Kept) (tokens : Tokens) (connection : Connection) (can : CanBe
 
   -- watchers can be told of it
   pub can_tell : new.birth ≡ connection.birth → (endpoint : ℕ) (handles : List Handle) (done : Done) (before after : List ℕ) → Carries request handles →
-      done.told ≡ told → DoesGiven endpoint (object_of request) connection.birth.node what out done.fate before after → CanTell asking handles done new before after
+      done.told ≡ told → DoesGiven endpoint (object_of request) connection.birth.node what out done.deed before after → CanTell asking handles done new before after
   can_tell kept endpoint handles done before after carries same does =
       let act = here does.some in
       record {
@@ -153,7 +153,7 @@ module _ (graph : Kept) (tokens : Tokens) (connection : Connection) (can : CanBe
               protocol = ap (λ (birth : code.Birth). birth.protocol) kept ∙ watched.directory;
             };
         short = subst (All IsShort) (act.tells ∙ sym same) can_here.told;
-        taken = λ from takes. takes_by done.fate refl from takes;
+        taken = λ from takes. takes_by done.deed refl from takes;
         next = λ token directory is.
             let given = effects_are endpoint 0 (number_of connection.birth.node) txid (object_of request) _ what out act.answer ∙ does.effects 0 in
             let both = token_of_directory connection.birth.protocol room_here there.0 _ (asker_with endpoint 0 (number_of connection.birth.node) txid (object_of request)) _ _ can_here.answer
@@ -167,7 +167,7 @@ module _ (graph : Kept) (tokens : Tokens) (connection : Connection) (can : CanBe
       came : is_taken what ≡ true → Contains handles (Endpoint (object_of request))
       came is = taken_came (context_of connection room_here there.0 (names_in tokens)) request handles (taking_alike _ txid what out act_is.answer ∙ is) carries
 
-      takes_by : (fate : Deed) → done.fate ≡ fate → (from : ℕ) → Takes done.fate from → Contains handles (Endpoint from)
+      takes_by : (fate : Deed) → done.deed ≡ fate → (from : ℕ) → Takes done.deed from → Contains handles (Endpoint from)
       takes_by deeds.Stays is from takes = absurd (subst (λ (f : Deed). Takes f from) is takes)
       takes_by deeds.Ends is from takes = absurd (subst (λ (f : Deed). Takes f from) is takes)
       takes_by (deeds.Binds object birth) is from takes =
@@ -211,7 +211,7 @@ module _ (server : ℕ) (asking : Asking) (graph changed : Kept) (connection : C
     (txid : ℕ) (request : Asked) (known : has_method connection.birth.protocol (method_of request) ≡ true) (what : Given) (told : List Happening) (left : Written) (new : Connection) (kept : new.birth ≡ connection.birth)
     (acts : Acts (act_of (context_of connection (room_for asking (number_of connection.birth.node)) moment.tree moment.directory) request) txid what told left new graph changed)
     (done : Done) (same : done.told ≡ told) (before after : List ℕ)
-    (does : DoesGiven asking.endpoint (object_of request) connection.birth.node what left done.fate before after) where
+    (does : DoesGiven asking.endpoint (object_of request) connection.birth.node what left done.deed before after) where
   abbrev room : Room
   room = room_for asking (number_of connection.birth.node)
 
@@ -224,11 +224,11 @@ module _ (server : ℕ) (asking : Asking) (graph changed : Kept) (connection : C
   abbrev asker : Asker
   asker = asker_with asking.endpoint server (number_of connection.birth.node) txid (object_of request)
 
-  effects : effects_by asker act.answer ≡ effects_done asking.endpoint server done.fate
+  effects : effects_by asker act.answer ≡ effects_done asking.endpoint server done.deed
   effects = effects_are asking.endpoint server (number_of connection.birth.node) txid (object_of request) act.answer what left acts.answer ∙ does.effects server
 
   -- a token is given on a directory's connection alone
-  on_directory : (token : ℕ) (directory : NodeRef) → done.fate ≡ deeds.Gives token directory → IsOnDirectory directory new
+  on_directory : (token : ℕ) (directory : NodeRef) → done.deed ≡ deeds.Gives token directory → IsOnDirectory directory new
   on_directory token directory is = record {
     node = ap (λ (birth : code.Birth). birth.node) kept ∙ does.given token directory is;
     protocol =
@@ -238,7 +238,7 @@ module _ (server : ℕ) (asking : Asking) (graph changed : Kept) (connection : C
   }
 
   -- and so a directory is watched
-  may_watch : (object mask : ℕ) (directory : NodeRef) → done.fate ≡ deeds.Watches object directory mask → MayWatch room act.change directory new
+  may_watch : (object mask : ℕ) (directory : NodeRef) → done.deed ≡ deeds.Watches object directory mask → MayWatch room act.change directory new
   may_watch object mask directory is =
       let watch = does.watched object mask directory is in
       let watched = watch_has_room connection.birth.protocol room moment.tree act.change act.answer txid what left mask acts.answer can_now.answer watch.asked in
@@ -271,7 +271,7 @@ module _ (server : ℕ) (asking : Asking) (graph changed : Kept) (connection : C
 
 -- and a message that is none
 module _ (server : ℕ) (asking : Asking) (graph : Kept) (connection : Connection) (moment : Moment) (asks : IsAskedAt server asking graph connection moment)
-    (fault : RequestFault) (done : Done) (told : done.told ≡ nothing_told) (before after : List ℕ) (does : DoesFault asking.endpoint fault done.fate before after) where
+    (fault : RequestFault) (done : Done) (told : done.told ≡ nothing_told) (before after : List ℕ) (does : DoesFault asking.endpoint fault done.deed before after) where
   pub fault_answers : Answers moment (outcome_of_read moment (Err fault)) done connection graph graph before after
   fault_answers = subst (λ m. Answers m (outcome_of_read m (Err fault)) done connection graph graph before after) (is_sight server asking graph connection moment asks) (record {
     frames = does.frames server (number_of connection.birth.node);
@@ -287,17 +287,17 @@ module _ (server : ℕ) (asking : Asking) (graph : Kept) (connection : Connectio
   })
 
 module _ (server : ℕ) (asking : Asking) (handles : List Handle) (connection : Connection) (fault : RequestFault) (done : Done) (told : done.told ≡ nothing_told) (before after : List ℕ)
-    (does : DoesFault asking.endpoint fault done.fate before after) where
+    (does : DoesFault asking.endpoint fault done.deed before after) where
   pub fault_tells : CanTell asking handles done connection before after
   fault_tells = record {
     front = (spellings (frames_of (asker_with asking.endpoint server 0 (fault_txid fault) 0) (fault_answer fault)), does.frames server 0);
     directory = λ object mask directory is. absurd (does.watched object mask directory is);
     short = subst (All IsShort) (sym told) (All-nil IsShort);
-    taken = λ from takes. takes_none done.fate refl from takes;
+    taken = λ from takes. takes_none done.deed refl from takes;
     next = λ token directory is. absurd (does.given token directory is);
   }
     where
-      takes_none : (fate : Deed) → done.fate ≡ fate → (from : ℕ) → Takes done.fate from → Contains handles (Endpoint from)
+      takes_none : (fate : Deed) → done.deed ≡ fate → (from : ℕ) → Takes done.deed from → Contains handles (Endpoint from)
       takes_none deeds.Stays is from takes = absurd (subst (λ (f : Deed). Takes f from) is takes)
       takes_none deeds.Ends is from takes = absurd (subst (λ (f : Deed). Takes f from) is takes)
       takes_none (deeds.Binds object birth) is from takes = absurd (does.bound object birth is)

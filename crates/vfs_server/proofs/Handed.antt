@@ -1,96 +1,18 @@
 -- A reply has a handle exactly where it gives a token.
-use Rattle.std.proofs.Common.{◌≡◌, ◌∙◌, ℕ, List, [], ◌∷◌, Option, Some, None, refl, sym, ap, append-nil}
-use Rattle.fidl_wire.specs.Layout.{branch, fields, num}
-use Rattle.fidl_wire.specs.Spelling.{body_handles, members_part}
-use Rattle.fidl_wire.specs.Spelling as spelling
+use Rattle.std.proofs.Common.{◌≡◌, ℕ, refl, sym, ap}
 use Rattle.io_messages.specs.Replies.{Answered, done, fails, counted, payload, settled, token, attributes, unknown}
-use Rattle.io_messages.specs.declared.replies.Attributes.{Attributes}
-use Rattle.io_messages.specs.declared.replies.Shape.{Shape}
-use Rattle.io_messages.specs.declared.replies.Shape.TheVariants as shape
-use Rattle.io_messages.specs.ReplyWriting.{attribute_members, carried, failure, layout_of, reply_handles, status_word}
-use Rattle.io_messages.specs.Shapes.{shape_of}
+use Rattle.io_messages.specs.ReplyWriting.{reply_handles}
+use Rattle.conn_rules.proofs.TokenHandles.{handles_of_reply}
 use Rattle.vfs_journal.specs.Outcomes.{token_in}
 use Rattle.vfs_server.specs.Steps.{asker_with, token_given}
 
-done_bare : (o : Option Shape) → body_handles (layout_of o) (branch 1 []) ≡ []
-done_bare None = refl
-done_bare (Some shape.Done) = refl
-done_bare (Some shape.Number) = refl
-done_bare (Some shape.Bytes) = refl
-done_bare (Some shape.Vector) = refl
-done_bare (Some shape.Text) = refl
-done_bare (Some shape.Listing) = refl
-done_bare (Some shape.Settled) = refl
-done_bare (Some shape.Token) = refl
-done_bare (Some shape.Attributes) = refl
-
-failed_bare : (o : Option Shape) (x : ℕ) → body_handles (layout_of o) (failure o x) ≡ []
-failed_bare None x = refl
-failed_bare (Some shape.Done) x = refl
-failed_bare (Some shape.Number) x = refl
-failed_bare (Some shape.Bytes) x = refl
-failed_bare (Some shape.Vector) x = refl
-failed_bare (Some shape.Text) x = refl
-failed_bare (Some shape.Listing) x = refl
-failed_bare (Some shape.Settled) x = refl
-failed_bare (Some shape.Token) x = refl
-failed_bare (Some shape.Attributes) x = refl
-
-counted_bare : (o : Option Shape) (x : ℕ) → body_handles (layout_of o) (branch 1 (num x ∷ [])) ≡ []
-counted_bare None x = refl
-counted_bare (Some shape.Done) x = refl
-counted_bare (Some shape.Number) x = refl
-counted_bare (Some shape.Bytes) x = refl
-counted_bare (Some shape.Vector) x = refl
-counted_bare (Some shape.Text) x = refl
-counted_bare (Some shape.Listing) x = refl
-counted_bare (Some shape.Settled) x = refl
-counted_bare (Some shape.Token) x = refl
-counted_bare (Some shape.Attributes) x = refl
-
-carried_bare : (o : Option Shape) (bytes : List ℕ) → body_handles (layout_of o) (carried o bytes) ≡ []
-carried_bare None bytes = refl
-carried_bare (Some shape.Done) bytes = refl
-carried_bare (Some shape.Number) bytes = refl
-carried_bare (Some shape.Bytes) bytes = refl
-carried_bare (Some shape.Vector) bytes = refl
-carried_bare (Some shape.Text) bytes = refl
-carried_bare (Some shape.Listing) bytes = refl
-carried_bare (Some shape.Settled) bytes = refl
-carried_bare (Some shape.Token) bytes = refl
-carried_bare (Some shape.Attributes) bytes = refl
-
-settled_bare : (o : Option Shape) → body_handles (layout_of o) (fields (num 0 ∷ [])) ≡ []
-settled_bare None = refl
-settled_bare (Some shape.Done) = refl
-settled_bare (Some shape.Number) = refl
-settled_bare (Some shape.Bytes) = refl
-settled_bare (Some shape.Vector) = refl
-settled_bare (Some shape.Text) = refl
-settled_bare (Some shape.Listing) = refl
-settled_bare (Some shape.Settled) = refl
-settled_bare (Some shape.Token) = refl
-settled_bare (Some shape.Attributes) = refl
-
-members_bare : (vs : List (Option ℕ)) → (members_part vs).handles ≡ []
-members_bare [] = refl
-members_bare (None ∷ vs) = members_bare vs
-members_bare (Some x ∷ vs) = members_bare vs
-
-attributes_bare : (a : Attributes) → reply_handles (attributes a) ≡ []
-attributes_bare a = append-nil _ ∙ members_bare (spelling.given (attribute_members a))
-
 module _ (endpoint server node txid object : ℕ) where
-  none_in : (a : Answered) → token_in (asker_with endpoint server node txid object) a ≡ None → reply_handles a ≡ [] →
-      token_in (asker_with endpoint server node txid object) a ≡ token_given endpoint server node (reply_handles a)
-  none_in a none bare = none ∙ sym (ap (token_given endpoint server node) bare)
-
   pub token_is : (a : Answered) → token_in (asker_with endpoint server node txid object) a ≡ token_given endpoint server node (reply_handles a)
-  token_is (done m) = none_in (done m) refl (done_bare (shape_of m))
-  token_is (fails m s) = none_in (fails m s) refl (failed_bare (shape_of m) (status_word s))
-  token_is (counted m x) = none_in (counted m x) refl (counted_bare (shape_of m) x)
-  token_is (payload m bytes) = none_in (payload m bytes) refl (carried_bare (shape_of m) bytes)
-  token_is (settled m) = none_in (settled m) refl (settled_bare (shape_of m))
+  token_is (done m) = sym (ap (token_given endpoint server node) (handles_of_reply (done m)))
+  token_is (fails m s) = sym (ap (token_given endpoint server node) (handles_of_reply (fails m s)))
+  token_is (counted m x) = sym (ap (token_given endpoint server node) (handles_of_reply (counted m x)))
+  token_is (payload m bytes) = sym (ap (token_given endpoint server node) (handles_of_reply (payload m bytes)))
+  token_is (settled m) = sym (ap (token_given endpoint server node) (handles_of_reply (settled m)))
   token_is (token n) = refl
-  token_is (attributes a) = none_in (attributes a) refl (attributes_bare a)
+  token_is (attributes a) = sym (ap (token_given endpoint server node) (handles_of_reply (attributes a)))
   token_is (unknown ordinal) = refl

@@ -173,19 +173,19 @@ module _ (index : ℕ) (graph : Kept) (connections : Connections) (seats : Seats
 
   module _ (changed : Kept) (new : Connection) (outcome : Outcome) (done : Done) (before between behind : List ℕ)
       (answers : Answers moment outcome done new graph changed before between) (keeps : KeepsHolds old new graph changed) (can_still : CanBeBound changed new.birth)
-      (telling : behind ≡ between ++ spellings (first_of changed.edges done.fate ++ told_of seats done.told)) where
-    firsts_are : option_map_or (λ bound. first_frames moment.tree bound) outcome.bound [] ≡ first_of changed.edges done.fate
+      (telling : behind ≡ between ++ spellings (first_of changed.edges done.deed ++ told_of seats done.told)) where
+    firsts_are : option_map_or (λ bound. first_frames moment.tree bound) outcome.bound [] ≡ first_of changed.edges done.deed
     firsts_are =
-        first_is moment.tree changed outcome.change moment.bound.endpoint moment.bound.server done.fate outcome.bound (answers.change moment.tree asked.tree)
+        first_is moment.tree changed outcome.change moment.bound.endpoint moment.bound.server done.deed outcome.bound (answers.change moment.tree asked.tree)
         (λ object mask directory is. let watched = answers.watched object mask directory is in watched.still) (ap (λ e. e.bound) answers.effects)
 
     told_are : told_frames (bounds_at index seats) moment.bound.server outcome.told ≡ told_of seats done.told
     told_are = ap (λ (bound : Bound). told_frames (bounds_at index seats) bound.server outcome.told) bound_is ∙ told_is index seats outcome.told ∙ ap (told_of seats) answers.told
 
-    frames_are : frames_here moment (bounds_at index seats) outcome ≡ outcome.frames ++ (first_of changed.edges done.fate ++ told_of seats done.told)
+    frames_are : frames_here moment (bounds_at index seats) outcome ≡ outcome.frames ++ (first_of changed.edges done.deed ++ told_of seats done.told)
     frames_are =
         (λ i. outcome.frames ++ firsts_are i ++ told_are i)
-        ∙ append_assoc outcome.frames (first_of changed.edges done.fate) (told_of seats done.told)
+        ∙ append_assoc outcome.frames (first_of changed.edges done.deed) (told_of seats done.told)
 
     endpoint_is : moment.bound.endpoint ≡ asking.endpoint
     endpoint_is = ap (λ (bound : Bound). bound.endpoint) bound_is
@@ -207,7 +207,7 @@ module _ (index : ℕ) (graph : Kept) (connections : Connections) (seats : Seats
         let few = not_full moment.room (in_use (server_of index graph connections seats tokens)) (ap (λ (room : Room). room.connections) asked.room) free in
         omega (arith, in_use_now, few)
 
-    pub serves : HasAnswered moment outcome done.fate (server_of index graph connections seats tokens) (server_of index changed served seats tokens) before behind
+    pub serves : HasAnswered moment outcome done.deed (server_of index graph connections seats tokens) (server_of index changed served seats tokens) before behind
     serves = record {
       frames = one_behind before between behind outcome.frames _ answers.frames telling ∙ ap (λ (fs : List Frame). before ++ spellings fs) (sym frames_are);
       effects = answers.effects;
@@ -247,13 +247,13 @@ module _ (index : ℕ) (graph : Kept) (connections : Connections) (seats : Seats
   pub serves_message : (changed : Kept) (new : Connection) (bytes : List ℕ) (sent : List Handle) (done : Done) (before between behind : List ℕ) →
       numbers_of sent ≡ handles → AreByNumber sent → CanBeBound graph old.birth → KeepsHolds old new graph changed → CanBeBound changed new.birth →
       Answers moment (outcome_of_read moment (request_of old.birth.protocol bytes sent)) done new graph changed before between →
-      behind ≡ between ++ spellings (first_of changed.edges done.fate ++ told_of seats done.told) →
-      HasAnswered moment (outcome_of_sending moment (message bytes handles)) done.fate
+      behind ≡ between ++ spellings (first_of changed.edges done.deed ++ told_of seats done.told) →
+      HasAnswered moment (outcome_of_sending moment (message bytes handles)) done.deed
       (server_of index graph connections seats tokens) (server_of index changed (finite.insert connections asking.endpoint new) seats tokens) before behind
   serves_message changed new bytes sent done before between behind same_handles numbered can keeps can_still answers telling =
       let outcome_is = of_message moment old.birth.protocol bytes sent (ap (λ (bound : Bound). bound.birth.protocol) bound_is) (no_watcher old.birth.protocol _ can.spoken) numbered
       ∙ ap (λ (numbers : List ℕ). outcome_of_sending moment (message bytes numbers)) same_handles in
-      subst (λ outcome. HasAnswered moment outcome done.fate (server_of index graph connections seats tokens) (server_of index changed (finite.insert connections asking.endpoint new) seats tokens) before behind) outcome_is
+      subst (λ outcome. HasAnswered moment outcome done.deed (server_of index graph connections seats tokens) (server_of index changed (finite.insert connections asking.endpoint new) seats tokens) before behind) outcome_is
       (serves changed new (outcome_of_read moment (request_of old.birth.protocol bytes sent)) done before between behind answers keeps can_still telling)
 
 -- ---- on a watcher
@@ -292,14 +292,14 @@ module _ (index : ℕ) (graph : Kept) (connections : Connections) (seats : Seats
           ∙ ap (λ t. Some (if t then (moment.bound, moment.position) else (moment.bound, moment.position))) (eq-eqb moment.bound.endpoint moment.bound.endpoint refl))
 
   pub passes_over : (bytes : List ℕ) (done : Done) (before between behind : List ℕ) → IsPassedOver done → between ≡ before →
-      behind ≡ between ++ spellings (first_of graph.edges done.fate ++ told_of seats done.told) →
-      HasAnswered moment (outcome_of_sending moment (message bytes handles)) done.fate (server_of index graph connections seats tokens) (server_of index graph connections seats tokens) before behind
+      behind ≡ between ++ spellings (first_of graph.edges done.deed ++ told_of seats done.told) →
+      HasAnswered moment (outcome_of_sending moment (message bytes handles)) done.deed (server_of index graph connections seats tokens) (server_of index graph connections seats tokens) before behind
   passes_over bytes done before between behind passed kept telling =
-      subst (λ outcome. HasAnswered moment outcome done.fate (server_of index graph connections seats tokens) (server_of index graph connections seats tokens) before behind)
+      subst (λ outcome. HasAnswered moment outcome done.deed (server_of index graph connections seats tokens) (server_of index graph connections seats tokens) before behind)
       (sym (of_watcher moment bytes handles (ap (λ (bound : Bound). bound.birth.protocol) watcher_is)))
       (record {
-        frames = telling ∙ (λ i. kept i ++ spellings (first_of graph.edges (passed.fate i) ++ told_of seats (passed.told i)));
-        effects = ap (λ (fate : Deed). effects_done moment.bound.endpoint moment.bound.server fate) (sym passed.fate);
+        frames = telling ∙ (λ i. kept i ++ spellings (first_of graph.edges (passed.deed i) ++ told_of seats (passed.told i)));
+        effects = ap (λ (fate : Deed). effects_done moment.bound.endpoint moment.bound.server fate) (sym passed.deed);
         index = refl;
         bound = λ one. all_stay one (finite.get connections one) refl;
         count = refl;
@@ -307,10 +307,10 @@ module _ (index : ℕ) (graph : Kept) (connections : Connections) (seats : Seats
         tokens = refl;
         tree = λ tree stands. stands;
         holds = λ number. refl;
-        has_place = λ object birth is. absurd (let wrong : deeds.Stays ≡ deeds.Binds object birth = sym passed.fate ∙ is in search rules);
-        watched = λ object mask directory is. absurd (let wrong : deeds.Stays ≡ deeds.Watches object directory mask = sym passed.fate ∙ is in search rules);
-        given = λ given_token directory is. absurd (let wrong : deeds.Stays ≡ deeds.Gives given_token directory = sym passed.fate ∙ is in search rules);
-        mounted = λ mount object flags rest is. absurd (let wrong : deeds.Stays ≡ deeds.Forwards mount object flags rest = sym passed.fate ∙ is in search rules);
+        has_place = λ object birth is. absurd (let wrong : deeds.Stays ≡ deeds.Binds object birth = sym passed.deed ∙ is in search rules);
+        watched = λ object mask directory is. absurd (let wrong : deeds.Stays ≡ deeds.Watches object directory mask = sym passed.deed ∙ is in search rules);
+        given = λ given_token directory is. absurd (let wrong : deeds.Stays ≡ deeds.Gives given_token directory = sym passed.deed ∙ is in search rules);
+        mounted = λ mount object flags rest is. absurd (let wrong : deeds.Stays ≡ deeds.Forwards mount object flags rest = sym passed.deed ∙ is in search rules);
       })
 
 -- ---- what can be told
@@ -325,7 +325,7 @@ can_be_told asking sent changed new done before after can tells = record {
 
 pub nothing_told_of : (graph : Kept) (done : Done) → IsPassedOver done → CanBeTold graph done
 nothing_told_of graph done passed = record {
-  directory = λ object mask directory is. absurd (let wrong : deeds.Stays ≡ deeds.Watches object directory mask = sym passed.fate ∙ is in search rules);
+  directory = λ object mask directory is. absurd (let wrong : deeds.Stays ≡ deeds.Watches object directory mask = sym passed.deed ∙ is in search rules);
   short = subst (All IsShort) (sym passed.told) (All-nil IsShort);
 }
 

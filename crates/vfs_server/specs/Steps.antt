@@ -176,9 +176,9 @@ token_given endpoint server node (Token number ∷ later) = Some (record { token
 token_given endpoint server node _ = None
 
 -- what becomes of the endpoint by a reply with these handles, on a connection to this node
-abbrev pub fate_by : NodeRef → List Handle → Deed
-fate_by node (Token number ∷ later) = deeds.Gives number node
-fate_by node _ = deeds.Stays
+abbrev pub deed_by : NodeRef → List Handle → Deed
+deed_by node (Token number ∷ later) = deeds.Gives number node
+deed_by node _ = deeds.Stays
 
 -- what becomes of endpoints and tokens then, at this server, where the output has these handles
 abbrev pub effects_given : ℕ → ℕ → ℕ → ℕ → Given → List Handle → Effects
@@ -227,23 +227,23 @@ pub record IsToWatch (node directory : NodeRef) (mask : ℕ) (what : Given) : Ty
   pub asked : what ≡ given.WatchBy mask
 
 -- what a connection to this node gave was done, where it had left this output
-pub record DoesGiven (endpoint object : ℕ) (node : NodeRef) (what : Given) (left : Written) (fate : Deed) (before after : List ℕ) : Type 0 where
+pub record DoesGiven (endpoint object : ℕ) (node : NodeRef) (what : Given) (left : Written) (deed : Deed) (before after : List ℕ) : Type 0 where
   pub some : what ≢ given.NoMemory
   pub frames : after ≡ before ++ spellings (frames_given endpoint object what left)
-  pub effects : (server : ℕ) → effects_given endpoint server (number_of node) object what left.handles ≡ effects_done endpoint server fate
-  pub bound : (from : ℕ) (birth : code.Birth) → fate ≡ deeds.Binds from birth → BindsBy birth what
-  pub watched : (from mask : ℕ) (directory : NodeRef) → fate ≡ deeds.Watches from directory mask → IsToWatch node directory mask what
-  pub onward : (mount from flags : ℕ) (rest : List (List ℕ)) → fate ≡ deeds.Forwards mount from flags rest → GoesOnBehind mount what
-  pub given : (token : ℕ) (directory : NodeRef) → fate ≡ deeds.Gives token directory → node ≡ directory
+  pub effects : (server : ℕ) → effects_given endpoint server (number_of node) object what left.handles ≡ effects_done endpoint server deed
+  pub bound : (from : ℕ) (birth : code.Birth) → deed ≡ deeds.Binds from birth → BindsBy birth what
+  pub watched : (from mask : ℕ) (directory : NodeRef) → deed ≡ deeds.Watches from directory mask → IsToWatch node directory mask what
+  pub onward : (mount from flags : ℕ) (rest : List (List ℕ)) → deed ≡ deeds.Forwards mount from flags rest → GoesOnBehind mount what
+  pub given : (token : ℕ) (directory : NodeRef) → deed ≡ deeds.Gives token directory → node ≡ directory
 
 -- a message that is no request was answered
-pub record DoesFault (endpoint : ℕ) (fault : RequestFault) (fate : Deed) (before after : List ℕ) : Type 0 where
+pub record DoesFault (endpoint : ℕ) (fault : RequestFault) (deed : Deed) (before after : List ℕ) : Type 0 where
   pub frames : (server node : ℕ) → after ≡ before ++ spellings (frames_of (asker_with endpoint server node (fault_txid fault) 0) (fault_answer fault))
-  pub effects : (server node : ℕ) → effects_by (asker_with endpoint server node (fault_txid fault) 0) (fault_answer fault) ≡ effects_done endpoint server fate
-  pub bound : (from : ℕ) (birth : code.Birth) → fate ≢ deeds.Binds from birth
-  pub watched : (from mask : ℕ) (directory : NodeRef) → fate ≢ deeds.Watches from directory mask
-  pub onward : (mount from flags : ℕ) (rest : List (List ℕ)) → fate ≢ deeds.Forwards mount from flags rest
-  pub given : (token : ℕ) (directory : NodeRef) → fate ≢ deeds.Gives token directory
+  pub effects : (server node : ℕ) → effects_by (asker_with endpoint server node (fault_txid fault) 0) (fault_answer fault) ≡ effects_done endpoint server deed
+  pub bound : (from : ℕ) (birth : code.Birth) → deed ≢ deeds.Binds from birth
+  pub watched : (from mask : ℕ) (directory : NodeRef) → deed ≢ deeds.Watches from directory mask
+  pub onward : (mount from flags : ℕ) (rest : List (List ℕ)) → deed ≢ deeds.Forwards mount from flags rest
+  pub given : (token : ℕ) (directory : NodeRef) → deed ≢ deeds.Gives token directory
 
 -- ---- tokens
 
@@ -322,28 +322,28 @@ pub record MayWatch (in_use : Room) (change : Change) (directory : NodeRef) (con
 
 -- what was done with a message: what becomes of endpoints, and what watchers are to be told of it
 pub record Done : Type 0 where
-  pub fate : Deed
+  pub deed : Deed
   pub told : List Happening
 
 abbrev pub done_with : Deed → Changes → Done
-done_with fate changes = record { fate = fate; told = told_by changes }
+done_with deed changes = record { deed = deed; told = told_by changes }
 
 -- the endpoint stays, and watchers are told nothing
 abbrev pub stays : Done
-stays = record { fate = deeds.Stays; told = nothing_told }
+stays = record { deed = deeds.Stays; told = nothing_told }
 
 -- a connection does what an outcome says, and changes the graph as it says; watchers aren't told yet
 pub record Answers (moment : Moment) (outcome : Outcome) (done : Done) (new : Connection) (graph changed : Kept) (before after : List ℕ) : Type 0 where
   pub frames : after ≡ before ++ spellings outcome.frames
-  pub effects : effects_of outcome ≡ effects_done moment.bound.endpoint moment.bound.server done.fate
+  pub effects : effects_of outcome ≡ effects_done moment.bound.endpoint moment.bound.server done.deed
   pub told : outcome.told ≡ done.told
   pub position : new.position ≡ outcome.position
   pub change : Leads graph changed outcome.change
-  pub bound : (object : ℕ) (birth : code.Birth) → done.fate ≡ deeds.Binds object birth → CanBeBound changed birth
-  pub room : (object : ℕ) (birth : code.Birth) → done.fate ≡ deeds.Binds object birth → is_full moment.room ≡ false
-  pub watched : (object mask : ℕ) (directory : NodeRef) → done.fate ≡ deeds.Watches object directory mask → MayWatch moment.room outcome.change directory new
-  pub given : (token : ℕ) (directory : NodeRef) → done.fate ≡ deeds.Gives token directory → IsOnDirectory directory new
-  pub mounted : (mount object flags : ℕ) (rest : List (List ℕ)) → done.fate ≡ deeds.Forwards mount object flags rest → HasMount moment.tree mount
+  pub bound : (object : ℕ) (birth : code.Birth) → done.deed ≡ deeds.Binds object birth → CanBeBound changed birth
+  pub room : (object : ℕ) (birth : code.Birth) → done.deed ≡ deeds.Binds object birth → is_full moment.room ≡ false
+  pub watched : (object mask : ℕ) (directory : NodeRef) → done.deed ≡ deeds.Watches object directory mask → MayWatch moment.room outcome.change directory new
+  pub given : (token : ℕ) (directory : NodeRef) → done.deed ≡ deeds.Gives token directory → IsOnDirectory directory new
+  pub mounted : (mount object flags : ℕ) (rest : List (List ℕ)) → done.deed ≡ deeds.Forwards mount object flags rest → HasMount moment.tree mount
 
 -- the endpoint that a deed binds, as a watcher or another
 abbrev pub Takes : Deed → ℕ → Type 0
@@ -355,26 +355,26 @@ Takes _ endpoint = ⊥
 -- that is given is the next one
 pub record CanTell (asking : Asking) (handles : List Handle) (done : Done) (connection : Connection) (before after : List ℕ) : Type 0 where
   pub front : Begins before after
-  pub directory : (object mask : ℕ) (directory : NodeRef) → done.fate ≡ deeds.Watches object directory mask → IsOnDirectory directory connection
+  pub directory : (object mask : ℕ) (directory : NodeRef) → done.deed ≡ deeds.Watches object directory mask → IsOnDirectory directory connection
   pub short : All IsShort done.told
-  pub taken : (endpoint : ℕ) → Takes done.fate endpoint → Contains handles (Endpoint endpoint)
-  pub next : (token : ℕ) (directory : NodeRef) → done.fate ≡ deeds.Gives token directory → asking.token ≡ Some token
+  pub taken : (endpoint : ℕ) → Takes done.deed endpoint → Contains handles (Endpoint endpoint)
+  pub next : (token : ℕ) (directory : NodeRef) → done.deed ≡ deeds.Gives token directory → asking.token ≡ Some token
 
 -- nothing was done
 pub record IsPassedOver (done : Done) : Type 0 where
-  pub fate : done.fate ≡ deeds.Stays
+  pub deed : done.deed ≡ deeds.Stays
   pub told : done.told ≡ nothing_told
 
 -- ---- what watchers are told
 
 -- a new watcher is at a directory that the graph keeps, and what is told are names
 pub record CanBeTold (graph : Kept) (done : Done) : Type 0 where
-  pub directory : (object mask : ℕ) (directory : NodeRef) → done.fate ≡ deeds.Watches object directory mask → IsDirectory graph directory
+  pub directory : (object mask : ℕ) (directory : NodeRef) → done.deed ≡ deeds.Watches object directory mask → IsDirectory graph directory
   pub short : All IsShort done.told
 
 -- these watchers were told of what was done, over this graph
 abbrev pub IsTold : Seats → Kept → Done → List ℕ → List ℕ → Type 0
-IsTold seats graph what before after = after ≡ before ++ spellings (first_of graph.edges what.fate ++ told_of seats what.told)
+IsTold seats graph what before after = after ≡ before ++ spellings (first_of graph.edges what.deed ++ told_of seats what.told)
 
 -- ---- the server behind the answer
 

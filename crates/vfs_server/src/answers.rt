@@ -6,7 +6,7 @@ ghost use Rattle.link_frames.specs.Frames.{spellings};
 ghost use Rattle.io_messages.specs.Asked.{asked};
 ghost use Rattle.vfs_journal.specs.Outcomes.{announcement, ending};
 ghost use Rattle.vfs_journal.specs.Serving.{object_of};
-ghost use Rattle.vfs_server.specs.Steps.{BindsConnection, DoesFault, DoesGiven, HasTxid, fate_by, given_by, of_directory, told_in};
+ghost use Rattle.vfs_server.specs.Steps.{BindsConnection, DoesFault, DoesGiven, HasTxid, deed_by, given_by, of_directory, told_in};
 ghost use Rattle.dir_conn.specs.Served.{told_with};
 ghost use Rattle.vfs_server.specs.Given as gives;
 ghost use Rattle.conn_rules.specs.Answers.{nothing_told};
@@ -135,7 +135,7 @@ pub(crate) fn put_reply<'a>(
     out: &Out,
     outbox: &mut Outbox,
 ) -> Result<Deed<'a>, NoMemory>
-    ensures does { (object : ℕ) → IfOk result (λ fate. DoesGiven endpoint object node gives.Reply out.now fate outbox.old outbox.new) }
+    ensures does { (object : ℕ) → IfOk result (λ deed. DoesGiven endpoint object node gives.Reply out.now deed outbox.old outbox.new) }
     ensures no_memory { OnErr result (outbox.new ≡ outbox.old) }
 {
     put_message(endpoint, out, outbox)?;
@@ -145,7 +145,7 @@ pub(crate) fn put_reply<'a>(
 /// What becomes of an endpoint by the reply in an output: a token that it has names this node.
 #[inline(always)]
 fn replied<'a>(node: NodeRef, out: &Out) -> Deed<'a>
-    ensures { result ≡ fate_by node out.now.handles }
+    ensures { result ≡ deed_by node out.now.handles }
 {
     match out.handles().first() {
         Some(Handle::Token(token)) => Deed::Gives {
@@ -166,7 +166,7 @@ fn bind<'a>(
 ) -> Result<Deed<'a>, NoMemory>
     requires watcher { birth.protocol ≢ Protocol.Watcher }
     ensures frames { OnOk result (outbox.new ≡ outbox.old ++ spellings (announcement object birth.protocol birth.announce)) }
-    ensures fate { IfOk result (λ fate. fate ≡ Deed.Binds object birth) }
+    ensures deed { IfOk result (λ deed. deed ≡ Deed.Binds object birth) }
     ensures no_memory { OnErr result (outbox.new ≡ outbox.old) }
 {
     put_announcement(
@@ -188,7 +188,7 @@ pub(crate) fn answer_fault<'a>(
     outbox: &mut Outbox,
 ) -> Result<Deed<'a>, NoMemory>
     requires txid { HasTxid fault }
-    ensures does { IfOk result (λ fate. DoesFault asking.now.endpoint fault fate outbox.old outbox.new) }
+    ensures does { IfOk result (λ deed. DoesFault asking.now.endpoint fault deed outbox.old outbox.new) }
     ensures no_memory { OnErr result (outbox.new ≡ outbox.old) }
 {
     let endpoint = asking.endpoint;
@@ -213,7 +213,7 @@ fn end<'a>(
     outbox: &mut Outbox,
 ) -> Result<Deed<'a>, NoMemory>
     ensures frames { OnOk result (outbox.new ≡ outbox.old ++ spellings (ending endpoint status)) }
-    ensures fate { IfOk result (λ fate. fate ≡ Deed.Ends) }
+    ensures deed { IfOk result (λ deed. deed ≡ Deed.Ends) }
     ensures no_memory { OnErr result (outbox.new ≡ outbox.old) }
 {
     put_ending(endpoint, status, out, outbox)?;
