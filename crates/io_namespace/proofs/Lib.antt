@@ -4,3 +4,4 @@ pub mod TreeLemmas
 pub mod ReachLemmas
 pub mod FaultLemmas
 pub mod JoinLemmas
+pub mod LawLemmas

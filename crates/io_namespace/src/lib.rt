@@ -5,10 +5,12 @@ mod checks;
 mod cleaning;
 mod edges;
 mod faults;
+mod laws;
 mod namespace;
 mod resolved;
 
 pub use checks::is_absolute;
 pub use faults::NameFault;
+pub use laws::{clean_laws, resolving_laws};
 pub use namespace::Namespace;
 pub use resolved::{PathText, Resolved};

@@ -1,3 +1,4 @@
 pub mod TableLemmas
 pub mod ScriptLemmas
 pub mod AnswerLemmas
+pub mod Complete

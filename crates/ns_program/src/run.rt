@@ -4,7 +4,7 @@ ghost use Rattle.run_status.specs.Files.{StillTold};
 ghost use Rattle.run_status.specs.Outside.{files_told, sink_told};
 ghost use Rattle.run_status.specs.Reads.{ReadsOnly};
 ghost use Rattle.run_status.specs.Texts.{Tells};
-ghost use Rattle.ns_program.specs.Answers.{Answers, HasNoScript, HasNoTable};
+ghost use Rattle.ns_program.specs.Answers.{Answers, HasNoScript, HasNoTable, IsDoneOrNoMemory, IsServable, NoFault};
 ghost use Rattle.ns_program.specs.Rewriting.{IsScript};
 ghost use Rattle.ns_program.specs.Statuses.{note_of};
 ghost use Rattle.ns_program.specs.Tables.{IsTable};
@@ -42,6 +42,11 @@ pub fn ns_words<F: Files, K: Sink, N: Sink>(
 
     // At most the table and then the script are read, each once.
     ensures reads { (asks : Asks) → Means (map string_bytes words.now) asks → ReadsOnly F.reads (files_of asks) files.old files.new }
+
+    // Where no line is refused, and no fault is met, all is done unless memory runs out.
+    ensures complete { let told = files_told F.told F.faults F.overlong in let wrote = sink_told K.written K.flushed K.faults in
+        (asks : Asks) → Means (map string_bytes words.now) asks → IsServable asks (told files.old) →
+        NoFault asks (told files.old) (told files.new) (wrote sink.old) (wrote sink.new) → IsDoneOrNoMemory result }
 
     // The note of the status is told last, and nothing else.
     ensures note { Tells (note_of result) (sink_told N.written N.flushed N.faults notes.old) (sink_told N.written N.flushed N.faults notes.new) }
