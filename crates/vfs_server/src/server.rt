@@ -286,12 +286,7 @@ impl Server {
     /// Lets an endpoint that isn't bound here watch a directory, and holds that. Of want of memory the
     /// server is as it was.
     #[inline(never)]
-    pub(crate) fn watch(
-        &mut self,
-        endpoint: u32,
-        directory: NodeRef,
-        mask: u32,
-    ) -> Result<(), NoMemory>
+    fn watch(&mut self, endpoint: u32, directory: NodeRef, mask: u32) -> Result<(), NoMemory>
         requires free { seen self.old endpoint ≡ None }
         requires directory { CanWatch self.old directory }
         ensures watches { OnOk result (Binds self.old (watcher_with self.old.index endpoint (number_of directory) mask) self.new) }
@@ -305,7 +300,7 @@ impl Server {
     /// Lets a token name a directory of this server, and holds that. Of want of memory the server is as it
     /// was.
     #[inline(never)]
-    pub(crate) fn give(&mut self, token: u32, directory: NodeRef) -> Result<(), NoMemory>
+    fn give(&mut self, token: u32, directory: NodeRef) -> Result<(), NoMemory>
         requires free { named self.old token ≡ None }
         requires directory { IsDirectory self.old.graph directory }
         requires room { finite.len self.old.tokens < limit.MAX_TOKENS }
