@@ -30,7 +30,8 @@ use Rattle.io_messages.specs.declared.replies.Shape.TheVariants as shape
 use Rattle.vfs_journal.specs.Outcomes.{Asker, announcement, close_frame, ending, reply_frame}
 use Rattle.vfs_journal.specs.Output.{refused_frame}
 use Rattle.frame_laws.proofs.Sizes.{body_size, is_small, numbers_most, rooms_of}
-use Rattle.frame_laws.proofs.Written.{AreWritable, body_is, both_written, header_written, items_of, length-header, length-number, none_written, number_written, numbers_of_bytes}
+use Rattle.journal_laws.proofs.Texts.{both_written, none_written}
+use Rattle.frame_laws.proofs.Written.{AreWritable, body_is, header_written, items_of, length-header, length-number, number_written, numbers_of_bytes}
 
 -- ---- frames by their parts
 

@@ -10,7 +10,6 @@ use Rattle.link_frames.specs.Frames.{Frame, IsFrame, spelling, spellings}
 use Rattle.link_frames.proofs.Spelled.{length-spelling, spelling-injective}
 use Rattle.fidl_wire.specs.Names.{AreDistinct}
 use Rattle.frame_laws.proofs.Readings.{parts_are_read_back}
-use Rattle.frame_laws.specs.Bytes.{BeginsWithBytes}
 use Rattle.frame_laws.specs.Laws.{AreMore}
 use Rattle.journal_laws.proofs.Below.{below}
 use Rattle.vfs_journal.specs.Entries.{Journal, Sent}
@@ -96,7 +95,6 @@ passed_on start before frame old new audits is same owed =
       (next.0, all),
       record {
         distinct = audits.distinct;
-        bytes = audits.bytes;
         stands = subst (StandsFor start new.world) (sym journal) (subst (λ (w : World). StandsFor start w (journal_of start before)) (sym same) audits.stands);
         owing = next.0;
         all = ap (frames_behind start) journal ∙ (all ∙ sym out);
@@ -116,12 +114,11 @@ went_on start before one old new held held' audits none quiet few led owes =
     let later = behind_record start earlier one in
     let journal = journal_more start before one in
     let more : AreMore start earlier later led.part =
-    parts_are_read_back (below audits.distinct) start earlier later led.part audits.stands.sound audits.bytes audits.stands.lawful led.stands.lawful led.more in
+    parts_are_read_back (below audits.distinct) start earlier later led.part audits.stands.sound audits.stands.lawful led.stands.lawful led.more in
     let out : outs (before ++ one ∷ []) ≡ frames_behind start earlier =
     outs_more before one ∙ (ap (λ (l : List Frame). outs before ++ l) quiet ∙ (append-nil (outs before) ∙ all_out start before old audits none)) in
     record {
       distinct = audits.distinct;
-      bytes = audits.bytes;
       stands = subst (StandsFor start new.world) (sym journal) led.stands;
       owing = more.more;
       all = ap (frames_behind start) journal ∙ (more.grown ∙ ap (λ (l : List Frame). l ++ more.more) (sym out));
@@ -136,7 +133,6 @@ ended_on start before now audits =
     let journal = journal_more start before ends in
     record {
       distinct = audits.distinct;
-      bytes = audits.bytes;
       stands = subst (StandsFor start now.world) (sym journal) audits.stands;
       owing = audits.owing;
       all = ap (frames_behind start) journal
@@ -147,12 +143,11 @@ ended_on start before now audits =
     }
 
 -- before the first record
-pub begins : (start : Start) (now : Auditing) → AreDistinct → BeginsWithBytes start → StandsFor start now.world [] → now.world.frames ≡ 0 → now.owed ≡ []
+pub begins : (start : Start) (now : Auditing) → AreDistinct → StandsFor start now.world [] → now.world.frames ≡ 0 → now.owed ≡ []
     → Audits start [] now
 unfolding history_of
-begins start now distinct bytes stands frames owed = record {
+begins start now distinct stands frames owed = record {
   distinct = distinct;
-  bytes = bytes;
   stands = stands;
   owing = [];
   all = refl;

@@ -3,7 +3,6 @@ use Rattle.std.specs.Prelude.{◌≡◌, ◌≤◌, ◌<◌, ℕ, All, List, [],
 use Rattle.link_frames.specs.declared.kinds.Side.TheVariants as side
 use Rattle.link_frames.specs.Frames.{Frame, IsFrame, spellings}
 use Rattle.fidl_wire.specs.Names.{AreDistinct}
-use Rattle.frame_laws.specs.Bytes.{BeginsWithBytes}
 use Rattle.vfs_journal.specs.Output.{frames_behind}
 use Rattle.vfs_journal.specs.Starts.{Start}
 use Rattle.vfs_world.specs.World.{StandsFor, World}
@@ -20,7 +19,6 @@ pub record Auditing : Type 0 where
 -- the world stands for the journal of these records, and what is owed is the frames of it that didn't go out
 pub record Audits (start : Start) (before : List Record) (now : Auditing) : Type 0 where
   pub distinct : AreDistinct
-  pub bytes : BeginsWithBytes start
   pub stands : StandsFor start now.world (journal_of start before)
   pub owing : List Frame
   pub all : frames_behind start (journal_of start before) ≡ outs before ++ owing
