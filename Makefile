@@ -77,7 +77,7 @@ check: build
 	@examples/play.sh $(PROGRAM)
 	@examples/ns.sh build/ns $(PROGRAM)
 	@examples/mirror.sh build/mirror $(PROGRAM)
-	@examples/audit.sh build/audit
+	@examples/audit.sh build/audit $(PROGRAM)
 
 bench: build
 	@tools/bench.sh $(PROGRAM)

@@ -1,9 +1,10 @@
 #!/usr/bin/env bash
-# audit.sh PROGRAM: runs the program on the recordings below, each over a tree, and compares the exit status, the note and the verdict.
-# What fails is shown; the last line counts.
+# audit.sh PROGRAM [VFS]: runs the program on the recordings below, each over a tree, and compares the exit status, the note and the
+# verdict. With VFS sessions of it are recorded as well, in three orders of serving, and each must be lawful. What fails is shown; the
+# last line counts.
 set -u
 cd "$(dirname "$0")/.." || exit 1
-program=$1
+program=$1 vfs=${2-}
 work=$(mktemp -d) || exit 1
 trap 'rm -rf "$work"' EXIT
 passed=0 failed=0
@@ -158,6 +159,24 @@ run "$small" "$work/none"; judge "no recording" $? 5 "file failed" ""
 run "$small" .; judge "a directory in place of a recording" $? 5 "file failed" ""
 run "$small" "$work/most"; judge "a recording of the largest size" $? 11 "" "record 0: bad record"
 run "$small" "$work/over"; judge "a recording that is too large" $? 5 "file too large" ""
+
+# What a server of its own writes, served at once and as late as can be: lawful, and one record less is not.
+recorded() { # TREE FRAMES ORDER
+    if ! tools/record.sh "$vfs" "$program" "$1" "$3" "$2" > "$work/recording"; then : > "$work/recording"; fi
+    run "$1" "$work/recording"
+    judge "$2, $3" $? 0 "" "$(sed 's/^lawful [0-9]* records$/&/;t;s/.*/lawful/' "$work/out")"
+    head -c -1 "$work/recording" > "$work/shorter"
+    run "$1" "$work/shorter"
+    judge "$2, $3, without its end" $? 11 "" "$(sed 's/^record [0-9]*: bad record$/&/;t;s/.*/bad record/' "$work/out")"
+}
+if [ -n "$vfs" ]; then
+    for order in soon rising falling; do
+        for frames in session changes names watching; do
+            recorded "$small" "examples/$frames.hex" "$order"
+        done
+        recorded examples/trees/mounted_pair.toml examples/turns.hex "$order"
+    done
+fi
 
 echo "$passed passed, $failed failed"
 [ "$failed" -eq 0 ] && [ "$passed" -gt 0 ]

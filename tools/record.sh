@@ -31,10 +31,10 @@ case $order in
     *) endpoints | sort -n ;;
 esac > "$work/endpoints"
 
-# Steps that pick each endpoint so many times, in turn.
-rounds() { # COUNT
+# Steps that pick each endpoint in turn, as often as there are frames, so that all is picked; a Pick that finds nothing is left out later.
+all_picked() {
     local i
-    for ((i = 0; i < $1; i++)); do sed 's/^/pick /' "$work/endpoints"; done
+    for ((i = 0; i < $(wc -l < "$work/frames"); i++)); do sed 's/^/pick /' "$work/endpoints"; done
 }
 
 # What a frame on this endpoint makes wait is served at once, also where it goes on over mounts.
@@ -52,10 +52,10 @@ steps() {
         case $order:${line:8:2} in
             soon:01) echo "in $line"; at_once "$endpoint" ;;
             *:01) echo "in $line" ;;
-            *:02) rounds 6; echo "in $line"; echo "turns $endpoint" ;;
+            *:02) all_picked; echo "in $line"; echo "turns $endpoint" ;;
         esac
     done < "$work/frames"
-    rounds 6
+    all_picked
 }
 
 # Records the session of the steps.
