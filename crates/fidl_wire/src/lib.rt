@@ -28,3 +28,4 @@ pub use ordinals::{OrdinalFault, Ordinals};
 pub use output::Out;
 pub use padding::padding_after;
 pub use reading::{Branch, Opened, Outside};
+pub use texts::is_utf8;

@@ -1,17 +1,13 @@
-use Rattle.std.proofs.Common.{◌≡◌, ℕ, List, true, false, refl, sym}
-use Rattle.std.specs.Str.{IsUtf8, is_utf8}
-use Rattle.std.proofs.lemmas.Str.{IsUtf8-from_is_utf8, is_utf8-from_IsUtf8}
+use Rattle.std.proofs.Common.{◌∙◌, sym}
+use Rattle.std.proofs.lemmas.Str.{is_utf8-from_IsUtf8}
+use Rattle.fidl_wire.proofs.Utf8.{low_is_text, text_test}
 use Rattle.fidl_wire.proofs.texts.is_utf8.Goals as goal
 
-none_is : (bytes : List ℕ) → (IsUtf8 bytes → ⊥) → false ≡ is_utf8 bytes
-none_is bytes h =
-    elim (is_utf8 bytes) as (λ b. is_utf8 bytes ≡ b → false ≡ b) [
-      | true ↦ λ e. absurd (h (IsUtf8-from_is_utf8 bytes e))
-      | false ↦ λ e. refl
-    ] refl
+pub returns-clause-value : goal.returns-clause-value
+returns-clause-value c = c.is_ok.ensures.value ∙ text_test c.from_utf8.result c.args.bytes.now _ _ c.from_utf8.ensures.cases
 
-pub returns-in-Ok : goal.returns-in-Ok
-returns-in-Ok c = sym (is_utf8-from_IsUtf8 c.args.bytes.now c.in-Ok.ensures.cases.1)
+pub returns-then-greatest-lt128-clause-value : goal.returns-then-greatest-lt128-clause-value
+returns-then-greatest-lt128-clause-value c = sym (is_utf8-from_IsUtf8 c.args.bytes.now (low_is_text c.args.bytes.now c.greatest.result c.greatest.ensures c.if-greatest-lt128.true))
 
-pub returns-in-Err : goal.returns-in-Err
-returns-in-Err c = none_is c.args.bytes.now c.in-Err.ensures.cases.0
+pub returns-then-greatest-lt128-clause-text : goal.returns-then-greatest-lt128-clause-text
+returns-then-greatest-lt128-clause-text c = λ _. low_is_text c.args.bytes.now c.greatest.result c.greatest.ensures c.if-greatest-lt128.true
