@@ -3,3 +3,5 @@ pub mod Tabled
 pub mod Paged
 pub mod Counting
 pub mod Travelling
+pub mod Numbered
+pub mod Leveled

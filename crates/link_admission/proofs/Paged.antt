@@ -1,21 +1,22 @@
 -- Numbers that are kept by pages.
-use Rattle.std.proofs.Common.{◌≡◌, ◌≤◌, ◌<◌, ◌^◌, ◌/◌, ◌%◌, ◌++◌, ◌∷◌, [], ℕ, zero, suc, Bool, true, false, cond, eqb, ltb, List, length, refl, sym, ap, ◌∙◌, ⊎_elim, subst, arith, zero-le, unwrap_or}
+use Rattle.std.proofs.Common.{◌≡◌, ◌≤◌, ◌<◌, ◌^◌, ◌/◌, ◌%◌, ◌==◌, ◌++◌, ◌∷◌, [], ℕ, zero, suc, Bool, true, false, cond, eqb, ltb, List, Vec, length, refl, sym, ap, ◌∙◌, ⊎_elim, subst, arith, zero-le, unwrap_or}
 use Rattle.std.specs.Prelude.{◌⊎◌, Option, Some, None, IsSome, replicate, slice_get, slice_set, take}
 use Rattle.std.specs.Ordering.{nat_cmp}
 use Rattle.std.specs.FinMap as map
 use Rattle.std.specs.FinMap.{get-empty, get-insert}
-use Rattle.std.specs.HashMap.{HashMap}
 use Rattle.std.proofs.lemmas.Bool.{cases_order, cases_eq, cases_lt, cond-true, cond-false, lt-ltb, le-ltb, eq-eqb, ne_eqb, eqb-true, false≢true}
 use Rattle.std.proofs.lemmas.Nat.{div-add-mod'}
+use Rattle.std.proofs.lemmas.Nat.Bits.{bit_at-zero}
 use Rattle.std.proofs.lemmas.Cmp.{nat_cmp_total}
 use Rattle.std.proofs.lemmas.List.{take_all}
 use Rattle.std.proofs.lemmas.Option.{slice_get_past}
 use Rattle.link_admission.specs.declared.kinds.Standing.{Standing}
 use Rattle.link_admission.specs.declared.kinds.Standing.TheVariants as standing
-use Rattle.link_admission.specs.declared.pages.Page.{Page}
+use Rattle.link_admission.specs.declared.page.Page.{Page}
+use Rattle.link_admission.specs.Standings.{standing_from}
 use Rattle.link_admission.specs.Tables.{Table, value_at, ChangesAt}
-use Rattle.link_admission.specs.Pages.{Gives, in_far, in_kept, in_near, in_page, in_pages, noted, noted_below, put_noted}
-use Rattle.link_admission.proofs.Tabled.{same_number}
+use Rattle.link_admission.specs.Pages.{Gives, Puts, in_far, in_kept, in_near, in_page, in_pages, noted, noted_below, put_noted, unused_page}
+use Rattle.link_admission.proofs.Tabled.{same_number, turned}
 
 at_put : (o : Option Standing) (n : ℕ) (t : Table Standing) → value_at t n ≡ None → value_at (put_noted o n t) n ≡ o
 at_put None n t none = none
@@ -96,6 +97,29 @@ puts_page old new k n s p page updates is q =
           ∙ sym (ne_eqb q n other))
           (cases_eq q n)
 
+-- on a page of unused numbers none was used
+pub unused_stands : (q : ℕ) → in_page unused_page q ≡ standing.Unused
+unused_stands q = ap (λ (bit : ℕ). standing_from (bit == 1, bit == 1)) (bit_at-zero (q % 32))
+
+-- the same of pages by their indexes
+pub puts_far : (old new : ℕ → Page) (k n : ℕ) (s : Standing) (p : Page) → k ≡ n / 32 → Puts k p old new → ((q : ℕ) → in_page p q ≡ cond (eqb (q % 32) (n % 32)) s (in_page (old k) q)) → Gives n s (λ q. in_page (old (q / 32)) q) (λ q. in_page (new (q / 32)) q)
+puts_far old new k n s p page puts is q =
+    puts_page (λ r. Some (old r)) (λ r. Some (new r)) k n s p page
+    (λ r. ap (λ (page : Page). Some page) (puts r) ∙ (some_if (eqb r k) p (old r) ∙ turned r k (Some p) (Some (old r)))) is q where
+      some_if : (b : Bool) (one other : Page) → Some (cond b one other) ≡ cond b (Some one) (Some other)
+      some_if true one other = refl
+      some_if false one other = refl
+
+-- numbers that stand alike make one table
+pub same_noted : (f g : ℕ → Standing) (n : ℕ) → ((q : ℕ) → f q ≡ g q) → noted_below f n ≡ noted_below g n
+unfolding noted_below
+same_noted f g zero same = refl
+same_noted f g (suc n) same =
+    ap (λ (t : Standing). put_noted (noted t) n (noted_below f n)) (same n) ∙ ap (put_noted (noted (g n)) n) (same_noted f g n same)
+
+pub same_pages : {S : Type 0} (near : List Page) (far other : List (Vec (Vec Page S) S)) → ((q : ℕ) → in_far other q ≡ in_far far q) → noted_below (in_pages near other) (2 ^ 32) ≡ noted_below (in_pages near far) (2 ^ 32)
+same_pages near far other same = same_noted (in_pages near other) (in_pages near far) (2 ^ 32) (λ q. ap (cond (ltb q 131072) (in_near near q)) (same q))
+
 -- to forget a number that stands nowhere changes nothing
 pub forgets : (f : ℕ → Standing) (n : ℕ) (s : Standing) → f n ≡ standing.Unused → IsSome (noted (f n)) ⊎ (s ≡ standing.Unused) → Gives n s f f
 forgets f n s missing known q =
@@ -161,22 +185,22 @@ same_more near k m p few unused q =
     ap (λ (ps : List Page). in_near (ps ++ replicate m p) q) (take_all k near few) ∙ get-more near m p (q / 32) q unused
 
 -- how a near number stands, and a far one
-pub near_stands : (near : List Page) (far : List (ℕ × Page)) (n : ℕ) → n < 131072 → in_pages near far n ≡ in_near near n
+pub near_stands : {S : Type 0} (near : List Page) (far : List (Vec (Vec Page S) S)) (n : ℕ) → n < 131072 → in_pages near far n ≡ in_near near n
 near_stands near far n small = cond-true (ltb n 131072) (in_near near n) (in_far far n) (lt-ltb n 131072 small)
 
-pub far_stands : (near : List Page) (far : List (ℕ × Page)) (n : ℕ) → 131072 ≤ n → in_pages near far n ≡ in_far far n
+pub far_stands : {S : Type 0} (near : List Page) (far : List (Vec (Vec Page S) S)) (n : ℕ) → 131072 ≤ n → in_pages near far n ≡ in_far far n
 far_stands near far n large = cond-false (ltb n 131072) (in_near near n) (in_far far n) (le-ltb n 131072 large)
 
 -- where there is no page no number is used
-pub nowhere : (near : List Page) (far : List (ℕ × Page)) (n : ℕ) → near ≡ [] → far ≡ [] → in_pages near far n ≡ standing.Unused
+pub nowhere : {S : Type 0} (near : List Page) (far : List (Vec (Vec Page S) S)) (n : ℕ) → near ≡ [] → far ≡ [] → in_pages near far n ≡ standing.Unused
 nowhere near far n no_near no_far =
-    ap (λ (ps : List Page). in_pages ps far n) no_near ∙ (ap (λ (ps : List (ℕ × Page)). in_pages [] ps n) no_far ∙ both (ltb n 131072)) where
-      both : (b : Bool) → cond b standing.Unused standing.Unused ≡ standing.Unused
-      both true = refl
-      both false = refl
+    ap (λ (ps : List Page). in_pages ps far n) no_near ∙ (ap (λ (ps : List _). in_pages [] ps n) no_far ∙ both (ltb n 131072) (in_page unused_page n) (unused_stands n)) where
+      both : (b : Bool) (t : Standing) → t ≡ standing.Unused → cond b standing.Unused t ≡ standing.Unused
+      both true t is = refl
+      both false t is = is
 
 -- what is given to a near number of near pages, or to a far one of far pages, is given to it
-gives_pages : (near new : List Page) (far other : List (ℕ × Page)) (n : ℕ) (s : Standing) → ((q : ℕ) → q < 131072 → in_near new q ≡ cond (eqb q n) s (in_near near q))
+gives_pages : {S : Type 0} (near new : List Page) (far other : List (Vec (Vec Page S) S)) (n : ℕ) (s : Standing) → ((q : ℕ) → q < 131072 → in_near new q ≡ cond (eqb q n) s (in_near near q))
     → ((q : ℕ) → 131072 ≤ q → in_far other q ≡ cond (eqb q n) s (in_far far q)) → Gives n s (in_pages near far) (in_pages new other)
 gives_pages near new far other n s low high q =
     ⊎_elim
@@ -200,7 +224,7 @@ in_table f g part new n t made fits same gives = record {
 }
 
 -- a near number stands so in the near pages, and a far one in the far pages
-pub near_in_table : (near new : List Page) (far : List (ℕ × Page)) (n : ℕ) (t : Table Standing) → noted_below (in_pages near far) (2 ^ 32) ≡ t → n < 2 ^ 32 → n < 131072
+pub near_in_table : {S : Type 0} (near new : List Page) (far : List (Vec (Vec Page S) S)) (n : ℕ) (t : Table Standing) → noted_below (in_pages near far) (2 ^ 32) ≡ t → n < 2 ^ 32 → n < 131072
     → StandsIn n t (noted_below (in_pages new far) (2 ^ 32)) (in_near near) (in_near new)
 near_in_table near new far n t made fits small =
     in_table (in_pages near far) (in_pages new far) (in_near near) (in_near new) n t made fits (near_stands near far n small)
@@ -208,17 +232,13 @@ near_in_table near new far n t made fits small =
     gives_pages near new far far n s (λ q low. given q)
     (λ q high. sym (cond-false (eqb q n) s (in_far far q) (ne_eqb q n (λ e. omega (arith, e, small, high))))))
 
-pub far_in_table : (near : List Page) (far new : List (ℕ × Page)) (n : ℕ) (t : Table Standing) → noted_below (in_pages near far) (2 ^ 32) ≡ t → n < 2 ^ 32 → 131072 ≤ n
+pub far_in_table : {S : Type 0} (near : List Page) (far new : List (Vec (Vec Page S) S)) (n : ℕ) (t : Table Standing) → noted_below (in_pages near far) (2 ^ 32) ≡ t → n < 2 ^ 32 → 131072 ≤ n
     → StandsIn n t (noted_below (in_pages near new) (2 ^ 32)) (in_far far) (in_far new)
 far_in_table near far new n t made fits large =
     in_table (in_pages near far) (in_pages near new) (in_far far) (in_far new) n t made fits (far_stands near far n large)
     (λ s given.
     gives_pages near near far new n s (λ q low. sym (cond-false (eqb q n) s (in_near near q) (ne_eqb q n (λ e. omega (arith, e, large, low)))))
     (λ q high. given q))
-
--- one map of pages has one list of entries
-pub same_entries : {S : Type 0} (m n : HashMap ℕ Page S) → m ≡ n → m.entries ≡ n.entries
-same_entries {S = S} m n same = ap (λ (m : HashMap ℕ Page S). m.entries) same
 
 -- nothing, on either side of a bound
 pub nothing : (b : Bool) → cond b (noted standing.Unused) None ≡ None

@@ -1,9 +1,7 @@
 -- Tables by their numbers, as finite maps.
-use Rattle.std.specs.Prelude.{◌≡◌, ◌≤◌, ◌<◌, ◌^◌, ◌==◌, ◌&&◌, ℕ, Bool, true, false, not, List, if◌then◌else◌, Option, Some, None, length, take, slice_index, nat_eq, refl}
+use Rattle.std.specs.Prelude.{◌≡◌, ◌≤◌, ◌<◌, ◌^◌, ◌==◌, ◌&&◌, ℕ, Bool, true, false, not, List, if◌then◌else◌, Option, Some, None, length, take, slice_index, refl}
 use Rattle.std.specs.Coded.{Coded, code_by, coded×, coded_ℕ, coded_bool}
 use Rattle.std.specs.FinMap as map
-use Rattle.std.specs.List.{IsDistinct}
-use Rattle.std.specs.Map.{keys_of, lookup}
 use Rattle.std.specs.Ordering.{nat_cmp}
 use Rattle.fidl_names.specs.declared.limits.TheConstants as limit
 use Rattle.fidl_names.specs.HandleNumber.{is_client}
@@ -23,10 +21,6 @@ value_at t n = map.get t n
 -- what stands at one number is this now, and all else as it was
 abbrev pub ChangesAt : {X : Type 0} → ℕ → Option X → Table X → Table X → Type 0
 ChangesAt n w old new = (q : ℕ) → value_at new q ≡ (if q == n then w else value_at old q)
-
--- no number has two entries
-abbrev pub IsTable : {X : Type 0} → List (ℕ × X) → Type 0
-IsTable es = IsDistinct nat_eq (keys_of es)
 
 -- no number stands twice
 abbrev pub AreEachOnce : List ℕ → Type 0
@@ -79,9 +73,8 @@ numbered_code =
     (λ _. refl)
 
 -- what every table of tokens keeps
-pub record KeepsNumbers (entries : List (ℕ × Bool)) (number : ℕ) : Type 0 where
-  pub distinct : IsTable entries
-  pub unused : (q : ℕ) → number ≤ q → lookup (nat_eq q) entries ≡ None
+pub record KeepsNumbers (entries : Table Bool) (number : ℕ) : Type 0 where
+  pub unused : (q : ℕ) → number ≤ q → value_at entries q ≡ None
   pub last : number ≤ 2 ^ 32
 
 -- what the two tables keep beside each other: no standing is written down as unused, and no token is a client's number

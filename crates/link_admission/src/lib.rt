@@ -4,6 +4,8 @@
 mod admission;
 mod endpoints;
 mod kinds;
+mod levels;
+mod page;
 mod pages;
 mod standings;
 mod tokens;

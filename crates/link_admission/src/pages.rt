@@ -1,116 +1,19 @@
 // How all numbers of endpoints stand, kept by pages of numbers that follow one another. The pages of low numbers, which
-// clients mostly pick, stand in a row, and none of them is looked up.
+// clients mostly pick, stand in one row, and all others in rows of rows: none is searched for.
 
-ghost use Rattle.std.specs.Prelude.{◌≡◌, ◌/◌, ◌%◌, ◌<◌, ◌==◌, ◌≢◌, ◌⊎◌, ℕ, None, IsSome, OnOk, OnErr, if◌then◌else◌, length, unwrap_or};
-ghost use Rattle.std.specs.Int.{bit_at};
-ghost use Rattle.link_admission.specs.Standings.{standing_bits, standing_from};
+ghost use Rattle.std.specs.Prelude.{◌≡◌, ◌/◌, ◌<◌, ◌⊎◌, ℕ, None, IsSome, OnOk, OnErr, length, unwrap_or};
 ghost use Rattle.link_admission.specs.Tables.{value_at, ChangesAt};
-ghost use Rattle.link_admission.specs.Pages.{Gives, in_far, in_near, in_page, noted};
+ghost use Rattle.link_admission.specs.Pages.{Gives, in_far, in_near, noted};
 
 use crate::kinds::Standing;
+use crate::levels::{page_at, put_at, replace_at};
+use crate::page::{PAGE_LEN, Page, page_of};
 use fidl_names::NoMemory;
 use std::alloc::Global;
-use std::collections::HashMap;
 use std::marker::Model;
-
-/// How many numbers a page has.
-const PAGE_LEN: u32 = 32;
 
 /// Numbers below this one are near. Their pages take at most 64 KiB.
 const NEAR: u32 = 131_072;
-
-/// How the numbers of a page stand, by two bits each: whether it is live, and whether it is closed.
-#[derive(Clone, Copy)]
-struct Page {
-    live: u32,
-    closed: u32,
-}
-
-/// Which page a number is on.
-fn page_of(number: u32) -> u32
-    ensures { result ≡ number / PAGE_LEN }
-{
-    number / PAGE_LEN
-}
-
-/// Its place there.
-fn place_of(number: u32) -> u32
-    ensures { result ≡ number % PAGE_LEN }
-{
-    number % PAGE_LEN
-}
-
-/// Whether the bit of a place is set.
-fn is_set(bits: u32, place: u32) -> bool
-    requires { place < PAGE_LEN }
-    ensures { result ≡ (bit_at bits place == 1) }
-{
-    (bits >> place) & 1 == 1
-}
-
-/// These bits with another one at a place.
-fn with_bit(bits: u32, place: u32, bit: bool) -> u32
-    requires { place < PAGE_LEN }
-    ensures here { (bit_at result place == 1) ≡ bit }
-    ensures others { (i : ℕ) → i < PAGE_LEN → i ≢ place → bit_at result i ≡ bit_at bits i }
-{
-    if bit {
-        bits | (1 << place)
-    } else {
-        bits & !(1 << place)
-    }
-}
-
-/// Whether an endpoint that stands so is closed, at its client's end or at both.
-fn is_closed(standing: Standing) -> bool
-    ensures { result ≡ (standing_bits standing).1 }
-{
-    match standing {
-        Standing::Unused | Standing::Live => false,
-        Standing::HungUp | Standing::Dead => true,
-    }
-}
-
-/// The standing with these bits.
-fn standing_by(live: bool, closed: bool) -> Standing
-    ensures { result ≡ standing_from (live, closed) }
-{
-    match (live, closed) {
-        (false, false) => Standing::Unused,
-        (true, false) => Standing::Live,
-        (true, true) => Standing::HungUp,
-        (false, true) => Standing::Dead,
-    }
-}
-
-impl Page {
-    /// A page of numbers that were never used.
-    fn new() -> Page
-        ensures { (q : ℕ) → in_page result q ≡ Standing.Unused }
-    {
-        Page { live: 0, closed: 0 }
-    }
-
-    /// How a number of this page stands.
-    fn at(&self, number: u32) -> Standing
-        ensures { result ≡ in_page self.now number }
-    {
-        let place = place_of(number);
-        standing_by(is_set(self.live, place), is_set(self.closed, place))
-    }
-
-    /// Gives a number of this page another standing, and gives back the one that it had.
-    fn replace(&mut self, number: u32, standing: Standing) -> Standing
-        ensures was { result ≡ in_page self.old number }
-        ensures is { (q : ℕ) → in_page self.new q ≡ (if q % PAGE_LEN == number % PAGE_LEN then standing else in_page self.old q) }
-    {
-        let was = self.at(number);
-        let place = place_of(number);
-        self.live = with_bit(self.live, place, standing.is_live());
-        self.closed = with_bit(self.closed, place, is_closed(standing));
-        was
-    }
-}
 
 /// How a near number stands.
 fn at_near(near: &Vec<Page>, number: u32) -> Standing
@@ -123,13 +26,10 @@ fn at_near(near: &Vec<Page>, number: u32) -> Standing
 }
 
 /// How a far number stands.
-fn at_far(far: &HashMap<u32, Page>, number: u32) -> Standing
-    ensures { result ≡ in_far far.now.entries number }
+fn at_far(far: &Vec<Vec<Vec<Page>>>, number: u32) -> Standing
+    ensures { result ≡ in_far far.now.items number }
 {
-    match far.get(&page_of(number)) {
-        Some(page) => page.at(number),
-        None => Standing::Unused,
-    }
+    page_at(far, page_of(number)).at(number)
 }
 
 /// Gives a near number a standing.
@@ -146,19 +46,19 @@ fn put_near(near: &mut Vec<Page>, number: u32, standing: Standing) -> Result<(),
 }
 
 /// Gives a far number a standing.
-fn put_far(far: &mut HashMap<u32, Page>, number: u32, standing: Standing) -> Result<(), NoMemory>
-    ensures put { OnOk result (Gives number standing (in_far far.old.entries) (in_far far.new.entries)) }
-    ensures err { OnErr result (far.new.entries ≡ far.old.entries) }
+fn put_far(
+    far: &mut Vec<Vec<Vec<Page>>>,
+    alloc: Global,
+    number: u32,
+    standing: Standing,
+) -> Result<(), NoMemory>
+    ensures put { OnOk result (Gives number standing (in_far far.old.items) (in_far far.new.items)) }
+    ensures err { OnErr result ((q : ℕ) → in_far far.new.items q ≡ in_far far.old.items q) }
 {
-    let key = page_of(number);
-    if let Some(page) = far.get_mut(&key) {
-        page.replace(number, standing);
-        return Ok(());
-    }
-    let mut page = Page::new();
+    let index = page_of(number);
+    let mut page = page_at(far, index);
     page.replace(number, standing);
-    far.insert(key, page)?;
-    Ok(())
+    put_at(far, alloc, index, page)
 }
 
 /// Gives a near number that has a page another standing, or forgets any, and gives back how it stood.
@@ -178,22 +78,27 @@ fn replace_near(near: &mut Vec<Page>, number: u32, standing: Standing) -> Standi
 }
 
 /// Gives a far number that was used another standing, or forgets any, and gives back how it stood.
-fn replace_far(far: &mut HashMap<u32, Page>, number: u32, standing: Standing) -> Standing
-    requires known { IsSome (noted (in_far far.old.entries number)) ⊎ (standing ≡ Standing.Unused) }
-    ensures was { result ≡ in_far far.old.entries number }
-    ensures is { Gives number standing (in_far far.old.entries) (in_far far.new.entries) }
+fn replace_far(far: &mut Vec<Vec<Vec<Page>>>, number: u32, standing: Standing) -> Standing
+    requires known { IsSome (noted (in_far far.old.items number)) ⊎ (standing ≡ Standing.Unused) }
+    ensures was { result ≡ in_far far.old.items number }
+    ensures is { Gives number standing (in_far far.old.items) (in_far far.new.items) }
 {
-    match far.get_mut(&page_of(number)) {
-        Some(page) => page.replace(number, standing),
-        None => Standing::Unused,
+    let index = page_of(number);
+    let mut page = page_at(far, index);
+    if page.is_unused() {
+        return Standing::Unused;
     }
+    let was = page.replace(number, standing);
+    replace_at(far, index, page);
+    was
 }
 
 /// The standings of all numbers that were used.
 #[derive(Drop)]
 pub(crate) struct Pages {
+    alloc: Global,
     near: Vec<Page>,
-    far: HashMap<u32, Page>,
+    far: Vec<Vec<Vec<Page>>>,
 }
 
 impl Model for Pages {
@@ -209,7 +114,7 @@ impl Model for Pages {
 
     ghost coded = { map.code coded_ℕ standing_code };
 
-    ghost view = { λ p. noted_below (in_pages p.near.items p.far.entries) (2 ^ 32) };
+    ghost view = { λ p. noted_below (in_pages p.near.items p.far.items) (2 ^ 32) };
 }
 
 impl Pages {
@@ -217,8 +122,9 @@ impl Pages {
         ensures { (q : ℕ) → value_at result q ≡ None }
     {
         Pages {
+            alloc,
             near: Vec::new(alloc),
-            far: HashMap::new(alloc),
+            far: Vec::new(alloc),
         }
     }
 
@@ -240,7 +146,7 @@ impl Pages {
         if number < NEAR {
             return put_near(&mut self.near, number, standing);
         }
-        put_far(&mut self.far, number, standing)
+        put_far(&mut self.far, self.alloc, number, standing)
     }
 
     /// Gives a number that was used another standing, or forgets any number, and gives back how it stood.

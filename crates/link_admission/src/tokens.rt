@@ -9,13 +9,13 @@ ghost use Rattle.link_admission.specs.Numbering.{among};
 use fidl_names::{FIRST_TOKEN, MAX_TOKENS, NoMemory, is_client};
 use link_frames::HandleBytes;
 use std::alloc::Global;
-use std::collections::HashMap;
+use std::collections::BTreeMap;
 use std::marker::Model;
 
 /// The tokens that are out: whether each is held, or else travels.
 #[derive(Drop)]
 pub(crate) struct Tokens {
-    table: HashMap<u32, bool>,
+    table: BTreeMap<u32, bool>,
     next: u64,
 }
 
@@ -30,7 +30,7 @@ impl Model for Tokens {
 
     ghost view = { λ t. record { entries = map.from_entries t.table.entries; out = length t.table.entries; next = t.next } };
 
-    ghost invariant = { λ t. KeepsNumbers t.table.entries t.next };
+    ghost invariant = { λ t. KeepsNumbers (map.from_entries t.table.entries) t.next };
 }
 
 impl Tokens {
@@ -43,7 +43,7 @@ impl Tokens {
         ensures next { result.next ≡ FIRST_TOKEN }
     {
         Tokens {
-            table: HashMap::new(alloc),
+            table: BTreeMap::new(alloc),
             next: u64::from(FIRST_TOKEN),
         }
     }

@@ -1,7 +1,7 @@
 use Rattle.std.proofs.Common.{◌≡◌, ◌<◌, ◌%◌, ap, arith, cond, eqb, length, refl, sym, ◌∙◌}
 use Rattle.std.specs.Prelude.{Option, Some, slice_get, slice_set}
 use Rattle.std.proofs.lemmas.Option.{slice_get_read}
-use Rattle.link_admission.specs.declared.pages.Page.{Page}
+use Rattle.link_admission.specs.declared.page.Page.{Page}
 use Rattle.link_admission.specs.Pages.{in_kept}
 use Rattle.link_admission.proofs.Paged.{get-set, puts_page}
 use Rattle.link_admission.proofs.pages.replace_near.Goals as goal

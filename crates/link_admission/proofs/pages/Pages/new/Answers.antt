@@ -8,7 +8,7 @@ use Rattle.link_admission.proofs.pages.Pages.new.Goals as goal
 pub returns : goal.returns
 returns c = λ q.
     let near = c.new.result.items in
-    let far = c.new-2.result.entries in
+    let far = c.new-2.result.items in
     get-noted_below (in_pages near far) (2 ^ 32) q
-    ∙ (ap (λ (s : Standing). cond (ltb q (2 ^ 32)) (noted s) None) (nowhere near far q c.new.ensures.items c.new-2.ensures.empty)
+    ∙ (ap (λ (s : Standing). cond (ltb q (2 ^ 32)) (noted s) None) (nowhere near far q c.new.ensures.items c.new-2.ensures.items)
     ∙ nothing (ltb q (2 ^ 32)))

@@ -1,6 +1,6 @@
 use Rattle.std.proofs.Common.{◌==◌, ℕ, sym, ap, ◌∙◌, w32}
 use Rattle.std.proofs.lemmas.Nat.Bits.{bit_at_set_same, bit_at_set_other, bit_at_clear_same, bit_at_clear_other}
-use Rattle.link_admission.proofs.pages.with_bit.Goals as goal
+use Rattle.link_admission.proofs.page.with_bit.Goals as goal
 
 pub returns-then-bit-clause-here : goal.returns-then-bit-clause-here
 returns-then-bit-clause-here c =

@@ -4,10 +4,10 @@ use Rattle.std.proofs.lemmas.Bool.{cases_eq, cond-true, cond-false, eq-eqb, ne_e
 use Rattle.std.proofs.lemmas.Nat.{mod_below}
 use Rattle.link_admission.specs.declared.kinds.Standing.{Standing}
 use Rattle.link_admission.specs.declared.kinds.Standing.TheVariants as standing
-use Rattle.link_admission.specs.declared.pages.Page.{Page}
+use Rattle.link_admission.specs.declared.page.Page.{Page}
 use Rattle.link_admission.specs.Pages.{in_page}
 use Rattle.link_admission.specs.Standings.{is_live, standing_back, standing_bits, standing_from}
-use Rattle.link_admission.proofs.pages.Page.replace.Goals as goal
+use Rattle.link_admission.proofs.page.Page.replace.Goals as goal
 
 live_bit : (s : Standing) → is_live s ≡ (standing_bits s).0
 live_bit standing.Unused = refl
