@@ -38,7 +38,7 @@ living_first start =
     ap (filter (λ bound. not (is_dead [] bound.endpoint))) (append-nil (start.firsts ++ start.mounts))
     ∙ all_kept (λ (bound : Bound). not (is_dead [] bound.endpoint)) (start.firsts ++ start.mounts) (all_of (λ (bound : Bound). not (is_dead [] bound.endpoint) ≡ true) (start.firsts ++ start.mounts) (λ bound there. refl))
 
-life_first : (start : Start) (n : ℕ) → (table_of start []).life n ≡ option_map newborn (bound_at start [] n)
+pub life_first : (start : Start) (n : ℕ) → (table_of start []).life n ≡ option_map newborn (bound_at start [] n)
 unfolding table_of
 life_first start n = ap (λ (bounds : List Bound). option_map newborn (find (λ bound. bound.endpoint == n) bounds)) (sym (living_first start))
 

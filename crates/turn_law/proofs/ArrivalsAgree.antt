@@ -42,7 +42,7 @@ use Rattle.turn_law.proofs.Touching.{frames_touch}
 
 -- ---- what is said alike is told alike
 
-told_same : (start : Start) (frames : List Frame) (bound : Bound) (queue queue' : List Sent) (position position' : Position) (written written' : List Frame) → queue ≡ queue' → position ≡ position' → written ≡ written' →
+pub told_same : (start : Start) (frames : List Frame) (bound : Bound) (queue queue' : List Sent) (position position' : Position) (written written' : List Frame) → queue ≡ queue' → position ≡ position' → written ≡ written' →
     IsAsTold start frames bound queue position written → IsAsTold start frames bound queue' position' written'
 told_same start frames bound queue queue' position position' written written' a b c h =
     subst (λ (q : List Sent). IsAsTold start frames bound q position' written') a

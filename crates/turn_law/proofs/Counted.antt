@@ -60,17 +60,19 @@ pub record IsCounted (start : Start) (n ahead : ℕ) (frames : List Frame) : Typ
   pub split : frames ≡ later ++ frame ∷ earlier
   pub counts : counts_on start n earlier frame ≡ true
   pub is_before : before start n (suc ahead) frames ≡ earlier
+  pub mid : List Frame
+  pub newer : before start n ahead frames ≡ mid ++ frame ∷ earlier
   pub steady : SaySame n (table_of start (before start n ahead frames)) (table_of start (frame ∷ earlier))
   pub first : last_sendings start n (suc ahead) frames ≡ option_to_list (sending_by frame.kind frame) ++ last_sendings start n ahead frames
 
-before_later : (start : Start) (n ahead : ℕ) (frame : Frame) (frames : List Frame) → counts_on start n frames frame ≡ false → before start n (suc ahead) (frame ∷ frames) ≡ before start n (suc ahead) frames
+pub before_later : (start : Start) (n ahead : ℕ) (frame : Frame) (frames : List Frame) → counts_on start n frames frame ≡ false → before start n (suc ahead) (frame ∷ frames) ≡ before start n (suc ahead) frames
 unfolding before
 before_later start n ahead frame frames uncounted = ap (λ (b : Bool). if b then before start n ahead frames else before start n (suc ahead) frames) uncounted
 
-sends_later : (start : Start) (n ahead : ℕ) (frame : Frame) (frames : List Frame) → counts_on start n frames frame ≡ false → last_sendings start n ahead (frame ∷ frames) ≡ last_sendings start n ahead frames
+pub sends_later : (start : Start) (n ahead : ℕ) (frame : Frame) (frames : List Frame) → counts_on start n frames frame ≡ false → last_sendings start n ahead (frame ∷ frames) ≡ last_sendings start n ahead frames
 sends_later start n ahead frame frames uncounted = ap (λ (fs : List Frame). filter_map (λ (f : Frame). sending_by f.kind f) (reverse (take ahead fs))) (uncounted_more start n frame frames uncounted)
 
-sends_more : (start : Start) (n ahead : ℕ) (frame : Frame) (frames : List Frame) → counts_on start n frames frame ≡ true →
+pub sends_more : (start : Start) (n ahead : ℕ) (frame : Frame) (frames : List Frame) → counts_on start n frames frame ≡ true →
     last_sendings start n (suc ahead) (frame ∷ frames) ≡ last_sendings start n ahead frames ++ option_to_list (sending_by frame.kind frame)
 sends_more start n ahead frame frames counts =
     ap (λ (fs : List Frame). filter_map (λ (f : Frame). sending_by f.kind f) (reverse (take (suc ahead) fs))) (counted_more start n frame frames counts)
@@ -85,6 +87,8 @@ counted_here start n zero frame frames counts rest = record {
   split = refl;
   counts = counts;
   is_before = before_counted start n 0 frame frames counts;
+  mid = [];
+  newer = refl;
   steady = same_table n (table_of start (frame ∷ frames));
   first = sends_more start n 0 frame frames counts ∙ sym (append-nil (option_to_list (sending_by frame.kind frame)));
 }
@@ -97,6 +101,8 @@ counted_here start n (suc ahead) frame frames counts rest =
       split = ap (λ (fs : List Frame). frame ∷ fs) old.split;
       counts = old.counts;
       is_before = before_counted start n (suc ahead) frame frames counts ∙ old.is_before;
+      mid = old.mid;
+      newer = before_counted start n ahead frame frames counts ∙ old.newer;
       steady = then_same (table_same n _ _ (ap (table_of start) (before_counted start n ahead frame frames counts))) old.steady;
       first =
           sends_more start n (suc ahead) frame frames counts
@@ -114,12 +120,18 @@ counted_later start n ahead frame frames uncounted same old = record {
   split = ap (λ (fs : List Frame). frame ∷ fs) old.split;
   counts = old.counts;
   is_before = before_later start n ahead frame frames uncounted ∙ old.is_before;
+  mid = (newer_by ahead old.mid old.newer).0;
+  newer = (newer_by ahead old.mid old.newer).1;
   steady = then_same (steady_by ahead) old.steady;
   first =
       sends_later start n (suc ahead) frame frames uncounted
       ∙ old.first
       ∙ sym (ap (λ (ss : List Sending). option_to_list (sending_by old.frame.kind old.frame) ++ ss) (sends_later start n ahead frame frames uncounted));
 } where
+  newer_by : (k : ℕ) (mid : List Frame) → before start n k frames ≡ mid ++ old.frame ∷ old.earlier → (more : List Frame) × (before start n k (frame ∷ frames) ≡ more ++ old.frame ∷ old.earlier)
+  newer_by zero mid e = (frame ∷ mid, ap (λ (fs : List Frame). frame ∷ fs) e)
+  newer_by (suc k) mid e = (mid, before_later start n k frame frames uncounted ∙ e)
+
   steady_by : (k : ℕ) → SaySame n (table_of start (before start n k (frame ∷ frames))) (table_of start (before start n k frames))
   steady_by zero = same
   steady_by (suc k) = table_same n _ _ (ap (table_of start) (before_later start n k frame frames uncounted))

@@ -1,5 +1,5 @@
 -- What goes on behind a mount is an Open, in whatever moment; it leaves the mount's end as it was, and writes on its object alone.
-use Rattle.std.proofs.Common.{◌≡◌, ℕ, ◌^◌, ◌<◌, List, ◌++◌, Option, Some, None, Ok, Err, refl, sym, subst}
+use Rattle.std.proofs.Common.{◌≡◌, ℕ, ◌^◌, ◌+◌, ◌<◌, List, [], ◌∷◌, ◌++◌, length, Option, Some, None, Ok, Err, refl, sym, ap, ◌∙◌, subst, length-append, arith}
 use Rattle.fidl_names.specs.First.{first_of}
 use Rattle.fidl_names.specs.declared.methods.Method.{Method}
 use Rattle.fidl_names.specs.declared.methods.Method.TheVariants as method
@@ -28,11 +28,12 @@ use Rattle.conn_rules.specs.Refusals.{unless}
 use Rattle.conn_rules.specs.Walks.{Walk, arrives, crosses, missing, stops, walk}
 use Rattle.vfs_journal.specs.Entries.{Sending, hang_up, message}
 use Rattle.vfs_journal.specs.Outcomes.{Asker, Forwarded, forward_of}
+use Rattle.vfs_journal.specs.Session.{weight_of, weight_of_read}
 use Rattle.vfs_journal.specs.Serving.{Moment, Read, asker_of, context_at, fault_answer, fault_txid, object_of, outcome_of_message, outcome_of_read, outcome_of_sending, read_by, request_act}
 use Rattle.journal_laws.proofs.Acts.{IsAnswer, IsClone, IsClose, IsOpenAnswer, IsReply, IsToken, IsWatch, act_answers}
 use Rattle.journal_laws.proofs.Below.{Below}
-use Rattle.journal_laws.proofs.Onward.{path_left}
-use Rattle.journal_laws.proofs.Requests.{Carries, carries}
+use Rattle.journal_laws.proofs.Onward.{onward_reads, path_left}
+use Rattle.journal_laws.proofs.Requests.{Carries, carries, opens_directory}
 
 -- ---- what goes on
 
@@ -45,8 +46,18 @@ pub record IsOnward (forward : Forwarded) : Type 0 where
   pub small : flags < 256 ^ 8
   pub low : forward.object < 0x80000000
 
+-- and it weighs less than this
+pub record IsLighter (weight : ℕ) (forward : Forwarded) : Type 0 where
+  pub on : IsOnward forward
+  pub less : weight_of (message forward.bytes (forward.object ∷ [])) < weight
+
 forward_same : {x y : Forwarded} → Some x ≡ Some y → x ≡ y
 forward_same e = cc
+
+onward_weighs : Below → (flags : ℕ) (rest : List (List ℕ)) (object : ℕ) → IsPath (text_of rest) rest → flags < 256 ^ 8 → object < 0x80000000 →
+    weight_of (message (onward_bytes flags rest object) (object ∷ [])) ≡ 1 + length rest
+onward_weighs below flags rest object path small low =
+    ap weight_of_read (onward_reads below flags rest object path small low) ∙ ap (λ names. 1 + length names) (below.complete (text_of rest) rest path).1
 
 onward_small : (word : ℕ) (limit : OperationSet) → onward word limit < 256 ^ 8
 unfolding onward
@@ -56,25 +67,24 @@ path_onward : Below → (path : List ℕ) (front rest : List (List ℕ)) → IsP
 path_onward below path front rest h split =
     path_left front rest (subst (λ names. IsPath (text_of names) names) split (subst (λ (t : List ℕ). IsPath t (names_of path)) h.spelled h))
 
-open_onward : Below → (asker : Asker) (tree : Tree) (path : List ℕ) (word : ℕ) (answer : Answer) → IsOpenAnswer tree path word answer → asker.object < 0x80000000 → (forward : Forwarded) → forward_of asker answer ≡ Some forward → IsOnward forward
-open_onward below asker tree path word (forwards mount flags rest) h low forward e =
-    subst IsOnward (forward_same e)
-    (record {
-      flags = flags;
-      rest = rest;
-      bytes = refl;
-      path = path_onward below path h.walked.front rest (below.sound path h.good) h.walked.split;
-      small = subst (λ (n : ℕ). n < 256 ^ 8) (sym h.left) (onward_small word h.limit);
-      low = low;
-    })
-open_onward below asker tree path word (binds birth announced) h low forward e = absurd (cc)
-open_onward below asker tree path word (refuses status) h low forward e = absurd (cc)
-open_onward below asker tree path word (replies a) h low forward e = absurd h
-open_onward below asker tree path word closes h low forward e = absurd h
-open_onward below asker tree path word (watches mask) h low forward e = absurd h
-open_onward below asker tree path word (ends status) h low forward e = absurd h
-open_onward below asker tree path word hangs_up h low forward e = absurd h
-open_onward below asker tree path word silent h low forward e = absurd h
+open_onward : Below → (asker : Asker) (tree : Tree) (path : List ℕ) (word weight : ℕ) (answer : Answer) → weight ≡ 1 + length (names_of path) → IsOpenAnswer tree path word answer → asker.object < 0x80000000 →
+    (forward : Forwarded) → forward_of asker answer ≡ Some forward → IsLighter weight forward
+open_onward below asker tree path word weight (forwards mount flags rest) weighs h low forward e =
+    let path' = path_onward below path h.walked.front rest (below.sound path h.good) h.walked.split in
+    let small = subst (λ (n : ℕ). n < 256 ^ 8) (sym h.left) (onward_small word h.limit) in
+    let split = ap length h.walked.split ∙ length-append h.walked.front rest in
+    let some = h.walked.some in
+    let own = onward_weighs below flags rest asker.object path' small low in
+    subst (IsLighter weight) (forward_same e)
+    (record { on = record { flags = flags; rest = rest; bytes = refl; path = path'; small = small; low = low }; less = omega (arith, weighs, split, some, own) })
+open_onward below asker tree path word weight (binds birth announced) weighs h low forward e = absurd (cc)
+open_onward below asker tree path word weight (refuses status) weighs h low forward e = absurd (cc)
+open_onward below asker tree path word weight (replies a) weighs h low forward e = absurd h
+open_onward below asker tree path word weight closes weighs h low forward e = absurd h
+open_onward below asker tree path word weight (watches mask) weighs h low forward e = absurd h
+open_onward below asker tree path word weight (ends status) weighs h low forward e = absurd h
+open_onward below asker tree path word weight hangs_up weighs h low forward e = absurd h
+open_onward below asker tree path word weight silent weighs h low forward e = absurd h
 
 -- ---- an Open leaves its connection where it is
 
@@ -96,7 +106,7 @@ open_position context path word given object =
 
 -- ---- in whatever moment
 
-none_onward : (asker : Asker) (answer : Answer) → ((mount flags : ℕ) (rest : List (List ℕ)) → answer ≡ forwards mount flags rest → ⊥) → (forward : Forwarded) → forward_of asker answer ≡ Some forward → IsOnward forward
+none_onward : {A : Type 0} (asker : Asker) (answer : Answer) → ((mount flags : ℕ) (rest : List (List ℕ)) → answer ≡ forwards mount flags rest → ⊥) → (forward : Forwarded) → forward_of asker answer ≡ Some forward → A
 none_onward asker (forwards mount flags rest) none forward e = absurd (none mount flags rest refl)
 none_onward asker (replies a) none forward e = absurd (cc)
 none_onward asker closes none forward e = absurd (cc)
@@ -107,34 +117,44 @@ none_onward asker (ends status) none forward e = absurd (cc)
 none_onward asker hangs_up none forward e = absurd (cc)
 none_onward asker silent none forward e = absurd (cc)
 
-request_onward : Below → (asker : Asker) (room : Room) (tree : Tree) (request : Asked) (answer : Answer) (handles : List ℕ) → asker.object ≡ object_of request → IsAnswer room tree request answer → Carries request handles →
-    (forward : Forwarded) → forward_of asker answer ≡ Some forward → IsOnward forward
-request_onward below asker room tree (asks.open_path path word given object) answer handles at h c forward e =
-    open_onward below asker tree path word answer h (subst (λ (n : ℕ). n < 0x80000000) (sym at) c.low) forward e
-request_onward below asker room tree (asks.clone endpoint) answer handles at h c forward e = none_onward asker answer (λ m f r is. subst IsClone is h) forward e
-request_onward below asker room tree (asks.watch mask options watcher) answer handles at h c forward e = none_onward asker answer (λ m f r is. subst IsWatch is h) forward e
-request_onward below asker room tree asks.close answer handles at h c forward e = none_onward asker answer (λ m f r is. subst IsClose is h) forward e
-request_onward below asker room tree asks.get_token answer handles at h c forward e = none_onward asker answer (λ m f r is. subst (IsToken room.token) is h) forward e
-request_onward below asker room tree asks.query answer handles at h c forward e = none_onward asker answer (λ m f r is. subst IsReply is h) forward e
-request_onward below asker room tree (asks.get_attributes bits) answer handles at h c forward e = none_onward asker answer (λ m f r is. subst IsReply is h) forward e
-request_onward below asker room tree asks.sync answer handles at h c forward e = none_onward asker answer (λ m f r is. subst IsReply is h) forward e
-request_onward below asker room tree (asks.read_dirents most) answer handles at h c forward e = none_onward asker answer (λ m f r is. subst IsReply is h) forward e
-request_onward below asker room tree asks.rewind answer handles at h c forward e = none_onward asker answer (λ m f r is. subst IsReply is h) forward e
-request_onward below asker room tree (asks.rename src token dst) answer handles at h c forward e = none_onward asker answer (λ m f r is. subst IsReply is h) forward e
-request_onward below asker room tree (asks.link src token dst) answer handles at h c forward e = none_onward asker answer (λ m f r is. subst IsReply is h) forward e
-request_onward below asker room tree (asks.unlink name flags) answer handles at h c forward e = none_onward asker answer (λ m f r is. subst IsReply is h) forward e
-request_onward below asker room tree (asks.read count) answer handles at h c forward e = none_onward asker answer (λ m f r is. subst IsReply is h) forward e
-request_onward below asker room tree (asks.read_at count offset) answer handles at h c forward e = none_onward asker answer (λ m f r is. subst IsReply is h) forward e
-request_onward below asker room tree (asks.write bytes) answer handles at h c forward e = none_onward asker answer (λ m f r is. subst IsReply is h) forward e
-request_onward below asker room tree (asks.write_at bytes offset) answer handles at h c forward e = none_onward asker answer (λ m f r is. subst IsReply is h) forward e
-request_onward below asker room tree (asks.seek origin offset) answer handles at h c forward e = none_onward asker answer (λ m f r is. subst IsReply is h) forward e
-request_onward below asker room tree (asks.resize size) answer handles at h c forward e = none_onward asker answer (λ m f r is. subst IsReply is h) forward e
-request_onward below asker room tree (asks.echo_string value) answer handles at h c forward e = none_onward asker answer (λ m f r is. subst IsReply is h) forward e
+-- an Open weighs one more than its path has names
+abbrev Weighs : ℕ → Asked → Type 0
+Weighs weight (asks.open_path path word given object) = weight ≡ 1 + length (names_of path)
+Weighs weight _ = Unit {0}
 
-read_onward : Below → (moment : Moment) (p : Protocol) (bytes handles : List ℕ) (r : Read) → read_by p bytes handles ≡ r → (forward : Forwarded) → (outcome_of_read moment r).forward ≡ Some forward → IsOnward forward
+request_onward : Below → (asker : Asker) (room : Room) (tree : Tree) (request : Asked) (answer : Answer) (handles : List ℕ) (weight : ℕ) → asker.object ≡ object_of request → IsAnswer room tree request answer → Carries request handles →
+    Weighs weight request → (forward : Forwarded) → forward_of asker answer ≡ Some forward → IsLighter weight forward
+request_onward below asker room tree (asks.open_path path word given object) answer handles weight at h c w forward e =
+    open_onward below asker tree path word weight answer w h (subst (λ (n : ℕ). n < 0x80000000) (sym at) c.low) forward e
+request_onward below asker room tree (asks.clone endpoint) answer handles weight at h c w forward e = none_onward asker answer (λ m f r is. subst IsClone is h) forward e
+request_onward below asker room tree (asks.watch mask options watcher) answer handles weight at h c w forward e = none_onward asker answer (λ m f r is. subst IsWatch is h) forward e
+request_onward below asker room tree asks.close answer handles weight at h c w forward e = none_onward asker answer (λ m f r is. subst IsClose is h) forward e
+request_onward below asker room tree asks.get_token answer handles weight at h c w forward e = none_onward asker answer (λ m f r is. subst (IsToken room.token) is h) forward e
+request_onward below asker room tree asks.query answer handles weight at h c w forward e = none_onward asker answer (λ m f r is. subst IsReply is h) forward e
+request_onward below asker room tree (asks.get_attributes bits) answer handles weight at h c w forward e = none_onward asker answer (λ m f r is. subst IsReply is h) forward e
+request_onward below asker room tree asks.sync answer handles weight at h c w forward e = none_onward asker answer (λ m f r is. subst IsReply is h) forward e
+request_onward below asker room tree (asks.read_dirents most) answer handles weight at h c w forward e = none_onward asker answer (λ m f r is. subst IsReply is h) forward e
+request_onward below asker room tree asks.rewind answer handles weight at h c w forward e = none_onward asker answer (λ m f r is. subst IsReply is h) forward e
+request_onward below asker room tree (asks.rename src token dst) answer handles weight at h c w forward e = none_onward asker answer (λ m f r is. subst IsReply is h) forward e
+request_onward below asker room tree (asks.link src token dst) answer handles weight at h c w forward e = none_onward asker answer (λ m f r is. subst IsReply is h) forward e
+request_onward below asker room tree (asks.unlink name flags) answer handles weight at h c w forward e = none_onward asker answer (λ m f r is. subst IsReply is h) forward e
+request_onward below asker room tree (asks.read count) answer handles weight at h c w forward e = none_onward asker answer (λ m f r is. subst IsReply is h) forward e
+request_onward below asker room tree (asks.read_at count offset) answer handles weight at h c w forward e = none_onward asker answer (λ m f r is. subst IsReply is h) forward e
+request_onward below asker room tree (asks.write bytes) answer handles weight at h c w forward e = none_onward asker answer (λ m f r is. subst IsReply is h) forward e
+request_onward below asker room tree (asks.write_at bytes offset) answer handles weight at h c w forward e = none_onward asker answer (λ m f r is. subst IsReply is h) forward e
+request_onward below asker room tree (asks.seek origin offset) answer handles weight at h c w forward e = none_onward asker answer (λ m f r is. subst IsReply is h) forward e
+request_onward below asker room tree (asks.resize size) answer handles weight at h c w forward e = none_onward asker answer (λ m f r is. subst IsReply is h) forward e
+request_onward below asker room tree (asks.echo_string value) answer handles weight at h c w forward e = none_onward asker answer (λ m f r is. subst IsReply is h) forward e
+
+request_weighs : Below → (p : Protocol) (bytes handles : List ℕ) (t : ℕ) (a : Asked) → read_by p bytes handles ≡ Ok (t, a) → Weighs (weight_of (message bytes handles)) a
+request_weighs below p bytes handles t (asks.open_path path word given object) e =
+    ap weight_of_read (opens_directory below.spelled below.reads below.apart p bytes handles t path word given object e)
+request_weighs below p bytes handles t _ e = tt
+
+read_onward : Below → (moment : Moment) (p : Protocol) (bytes handles : List ℕ) (r : Read) → read_by p bytes handles ≡ r → (forward : Forwarded) → (outcome_of_read moment r).forward ≡ Some forward → IsLighter (weight_of (message bytes handles)) forward
 read_onward below moment p bytes handles (Ok found) e forward f =
-    request_onward below (asker_of moment.bound found.0 (object_of found.1)) moment.room moment.tree found.1 (request_act moment found.1).answer handles refl
-    (act_answers (context_at moment) found.1).0 (carries below.spelled p bytes handles found.0 found.1 e) forward f
+    request_onward below (asker_of moment.bound found.0 (object_of found.1)) moment.room moment.tree found.1 (request_act moment found.1).answer handles (weight_of (message bytes handles)) refl
+    (act_answers (context_at moment) found.1).0 (carries below.spelled p bytes handles found.0 found.1 e) (request_weighs below p bytes handles found.0 found.1 e) forward f
 read_onward below moment p bytes handles (Err fault) e forward f = none_onward (asker_of moment.bound (fault_txid fault) 0) (fault_answer fault) (no_forward fault) forward f where
   no_forward : (x : RequestFault) (mount flags : ℕ) (rest : List (List ℕ)) → fault_answer x ≡ forwards mount flags rest → ⊥
   no_forward (Malformed why) m fl r is = cc
@@ -142,14 +162,14 @@ read_onward below moment p bytes handles (Err fault) e forward f = none_onward (
   no_forward UnknownOneWay m fl r is = cc
   no_forward (UnknownTwoWay txid ordinal) m fl r is = cc
 
-message_onward : Below → (moment : Moment) (bytes handles : List ℕ) (p : Protocol) (forward : Forwarded) → (outcome_of_message moment p bytes handles).forward ≡ Some forward → IsOnward forward
+message_onward : Below → (moment : Moment) (bytes handles : List ℕ) (p : Protocol) (forward : Forwarded) → (outcome_of_message moment p bytes handles).forward ≡ Some forward → IsLighter (weight_of (message bytes handles)) forward
 message_onward below moment bytes handles protocol.Watcher forward e = absurd (cc)
 message_onward below moment bytes handles protocol.Directory forward e = read_onward below moment protocol.Directory bytes handles _ refl forward e
 message_onward below moment bytes handles protocol.File forward e = read_onward below moment protocol.File bytes handles _ refl forward e
 message_onward below moment bytes handles protocol.Node forward e = read_onward below moment protocol.Node bytes handles _ refl forward e
 message_onward below moment bytes handles protocol.Echo forward e = read_onward below moment protocol.Echo bytes handles _ refl forward e
 
-pub sending_onward : Below → (moment : Moment) (sending : Sending) (forward : Forwarded) → (outcome_of_sending moment sending).forward ≡ Some forward → IsOnward forward
+pub sending_goes : Below → (moment : Moment) (sending : Sending) (forward : Forwarded) → (outcome_of_sending moment sending).forward ≡ Some forward → IsLighter (weight_of sending) forward
 unfolding outcome_of_sending
-sending_onward below moment (message bytes handles) forward e = message_onward below moment bytes handles moment.bound.birth.protocol forward e
-sending_onward below moment hang_up forward e = absurd (cc)
+sending_goes below moment (message bytes handles) forward e = message_onward below moment bytes handles moment.bound.birth.protocol forward e
+sending_goes below moment hang_up forward e = absurd (cc)

@@ -32,7 +32,7 @@ fewer : {X Y : Type 0} (h : X → Option Y) (xs : List X) → length (filter_map
 fewer h [] = omega arith
 fewer h (x ∷ xs) = fewer_by (h x) (filter_map h xs) (length xs) (fewer h xs)
 
-sendings_few : (start : Start) (n ahead : ℕ) (frames : List Frame) → (length (last_sendings start n ahead frames) ≤ ahead) × (length (last_sendings start n ahead frames) ≤ length (counting start n frames))
+pub sendings_few : (start : Start) (n ahead : ℕ) (frames : List Frame) → (length (last_sendings start n ahead frames) ≤ ahead) × (length (last_sendings start n ahead frames) ≤ length (counting start n frames))
 sendings_few start n ahead frames =
     let fs = take ahead (counting start n frames) in
     let a = fewer (λ (f : Frame). sending_by f.kind f) (reverse fs) in
@@ -40,7 +40,7 @@ sendings_few start n ahead frames =
     let c = length-take ahead (counting start n frames) in
     (omega (arith, a, b, c), omega (arith, a, b, c))
 
-sendings_long : (ones : List Sent) → length (sendings_of ones) ≡ length ones
+pub sendings_long : (ones : List Sent) → length (sendings_of ones) ≡ length ones
 sendings_long [] = refl
 sendings_long (one ∷ ones) = let rest = sendings_long ones in omega (arith, rest)
 
@@ -62,14 +62,16 @@ pub record IsHead (start : Start) (frames : List Frame) (bound : Bound) (one : S
   pub behind : table_of start (frame ∷ earlier) ≡ sent_on start bound.endpoint one.sending (table_of start earlier)
   pub steady : SaySame bound.endpoint (table_of start (before start bound.endpoint (length rest) frames)) (table_of start (frame ∷ earlier))
   pub waits : sendings_of rest ≡ last_sendings start bound.endpoint (length rest) frames
+  pub mid : List Frame
+  pub newer : before start bound.endpoint (length rest) frames ≡ mid ++ frame ∷ earlier
 
-tail_of : {x y : Sending} {xs ys : List Sending} → x ∷ xs ≡ y ∷ ys → xs ≡ ys
+pub tail_of : {x y : Sending} {xs ys : List Sending} → x ∷ xs ≡ y ∷ ys → xs ≡ ys
 tail_of e = cc
 
 head_of : {x y : Sending} {xs ys : List Sending} → x ∷ xs ≡ y ∷ ys → x ≡ y
 head_of e = cc
 
-all_right : (xs ys : List Frame) → All (IsFrame ToServers) (xs ++ ys) → All (IsFrame ToServers) ys
+pub all_right : (xs ys : List Frame) → All (IsFrame ToServers) (xs ++ ys) → All (IsFrame ToServers) ys
 all_right [] ys h = h
 all_right (x ∷ xs) ys h = all_right xs ys (All-tail (IsFrame ToServers) x (xs ++ ys) h)
 
@@ -122,6 +124,8 @@ module _ (law : SpelledWhereRead) (start : Start) (frames : List Frame) (bound :
         behind = behind_heard start first.frame first.earlier bound.endpoint one.sending on sends heard;
         steady = first.steady;
         waits = tail_of whole;
+        mid = first.mid;
+        newer = first.newer;
       }
 
   valid : All (IsFrame ToServers) (first.frame ∷ first.earlier)

@@ -21,3 +21,11 @@ pub mod Steady
 pub mod Forwards
 pub mod MountEnds
 pub mod Answering
+pub mod Tails
+pub mod Alike
+pub mod ServedPast
+pub mod EndPlaces
+pub mod Carried
+pub mod Dying
+pub mod ServingsAgree
+pub mod AllSteps

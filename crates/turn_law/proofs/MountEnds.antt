@@ -30,7 +30,7 @@ use Rattle.journal_laws.proofs.Members.{found}
 use Rattle.journal_laws.proofs.Onward.{onward_reads}
 use Rattle.turn_law.specs.Told.{Table, answered, answers, behind_frame, by_answer, is_heard, newborn, onward, sending_by, sent_on, still, table_at_start, table_of}
 use Rattle.turn_law.specs.Tables.{SaySame}
-use Rattle.turn_law.proofs.Forwards.{IsOnward, open_position, sending_onward}
+use Rattle.turn_law.proofs.Forwards.{IsOnward, open_position, sending_goes}
 use Rattle.turn_law.proofs.Hearing.{heard_parts}
 use Rattle.turn_law.proofs.LinkedSteps.{new_each}
 use Rattle.turn_law.proofs.Touching.{AreNamed, answered_named, answered_touches, nothing_on, table_named, unbound_by}
@@ -48,7 +48,7 @@ pub record TouchesObject (position : Position) (object : ℕ) (o : Outcome) : Ty
   pub ends : (n : ℕ) → among n o.ends ≡ true → n ≡ object
   pub frames : All (λ frame. frame.endpoint ≡ object) o.frames
 
-among_one : (n m : ℕ) → among n (m ∷ []) ≡ true → n ≡ m
+pub among_one : (n m : ℕ) → among n (m ∷ []) ≡ true → n ≡ m
 among_one n m h = by_test (m == n) refl h where
   by_test : (b : Bool) → (m == n) ≡ b → (b || false) ≡ true → n ≡ m
   by_test true is h = sym (eqb-true m n is)
@@ -77,7 +77,7 @@ open_touches : (asker : Asker) (act : Act) (position : Position) (tree : Tree) (
 open_touches asker act position tree path word at h = answer_touches asker act position tree path word at act.answer h
 
 -- what goes on, served on a directory
-onward_touched : Below → (moment : Moment) (forward : Forwarded) → moment.bound.birth.protocol ≡ protocol.Directory → IsOnward forward →
+pub onward_touched : Below → (moment : Moment) (forward : Forwarded) → moment.bound.birth.protocol ≡ protocol.Directory → IsOnward forward →
     TouchesObject moment.position forward.object (outcome_of_sending moment (message forward.bytes (forward.object ∷ [])))
 unfolding outcome_of_sending
 onward_touched below moment forward directory is =
@@ -95,7 +95,7 @@ some_same : {x y : Bound × Position} → Some x ≡ Some y → x ≡ y
 some_same e = cc
 
 -- who lives there at the start is a directory's connection at its beginning
-end_at_start : (start : Start) (n : ℕ) (pair : Bound × Position) → IsStart start → (table_at_start start).life n ≡ Some pair → (pair.0.birth.protocol ≡ protocol.Directory) × (pair.1 ≡ fresh)
+pub end_at_start : (start : Start) (n : ℕ) (pair : Bound × Position) → IsStart start → (table_at_start start).life n ≡ Some pair → (pair.0.birth.protocol ≡ protocol.Directory) × (pair.1 ≡ fresh)
 end_at_start start n pair s e = by_find (find (λ bound. bound.endpoint == n) (start.firsts ++ start.mounts)) refl e where
   by_find : (o : Option Bound) → find (λ bound. bound.endpoint == n) (start.firsts ++ start.mounts) ≡ o → option_map newborn o ≡ Some pair → (pair.0.birth.protocol ≡ protocol.Directory) × (pair.1 ≡ fresh)
   by_find None is e = absurd (cc)
@@ -105,14 +105,14 @@ end_at_start start n pair s e = by_find (find (λ bound. bound.endpoint == n) (s
       (ap (λ (p : Bound × Position). p.0.birth.protocol) (sym same) ∙ (All-contains (IsOnDirectory start.trees) (start.firsts ++ start.mounts) bound s.placed one.0).protocol, ap (λ (p : Bound × Position). p.1) (sym same))
 
 -- a connection that stays where it is moves nowhere
-moved_fresh : (served : ℕ) (position : Position) (old : Option (Bound × Position)) → ((pair : Bound × Position) → old ≡ Some pair → pair.0.endpoint ≡ served → pair.1 ≡ position) → option_map (moved served position) old ≡ old
+pub moved_fresh : (served : ℕ) (position : Position) (old : Option (Bound × Position)) → ((pair : Bound × Position) → old ≡ Some pair → pair.0.endpoint ≡ served → pair.1 ≡ position) → option_map (moved served position) old ≡ old
 moved_fresh served position None h = refl
 moved_fresh served position (Some pair) h = by_test (pair.0.endpoint == served) refl where
   by_test : (b : Bool) → (pair.0.endpoint == served) ≡ b → Some (if b then (pair.0, position) else pair) ≡ Some pair
   by_test true e = ap (λ (p : Position). Some (pair.0, p)) (sym (h pair refl (eqb-true pair.0.endpoint served e)))
   by_test false e = refl
 
-onward_stays : Below → (start : Start) (table : Table) (forward : Forwarded) (pair : Bound × Position) → IsStart start → AreNamed table → EndsStay start table → is_client forward.endpoint ≡ false → is_client forward.object ≡ true → IsOnward forward →
+pub onward_stays : Below → (start : Start) (table : Table) (forward : Forwarded) (pair : Bound × Position) → IsStart start → AreNamed table → EndsStay start table → is_client forward.endpoint ≡ false → is_client forward.object ≡ true → IsOnward forward →
     table.life forward.endpoint ≡ Some pair → EndsStay start (answered table forward.endpoint (outcome_of_sending (still start pair) (message forward.bytes (forward.object ∷ []))))
 onward_stays below start table forward pair s named stays end client is lives = record { life = life_there; told = told_there } where
   o : Outcome
@@ -176,14 +176,14 @@ onwards_stay below (suc more) start table forward s named stays end client is =
             let on = (sending_within below.spelled (still start pair) (message forward.bytes (forward.object ∷ []))).forward f g in
             rest next f (answered_named table forward.endpoint o named) next_stays on.1
             (ap is_client (among_one f.object forward.object on.0) ∙ client)
-            (sending_onward below (still start pair) (message forward.bytes (forward.object ∷ [])) f g)
+            (sending_goes below (still start pair) (message forward.bytes (forward.object ∷ [])) f g).on
 
 -- ---- frames
 
 no_client_other : (e n : ℕ) → is_client e ≡ true → is_client n ≡ false → e ≢ n
 no_client_other e n client none same = true≢false (sym client ∙ ap is_client same ∙ none)
 
-clients_alone : (handles : List ℕ) (n : ℕ) → ((m : ℕ) → among m handles ≡ true → is_client m ≡ true) → is_client n ≡ false → among n handles ≡ false
+pub clients_alone : (handles : List ℕ) (n : ℕ) → ((m : ℕ) → among m handles ≡ true → is_client m ≡ true) → is_client n ≡ false → among n handles ≡ false
 clients_alone handles n each none = false_from_ne_true (among n handles) (λ h. true≢false (sym (each n h) ∙ none))
 
 -- what is sent on a client's endpoint, with clients' endpoints
@@ -214,7 +214,7 @@ sent_stays below (suc more) start endpoint sending table s named stays client ea
     by_forward None f = next_stays
     by_forward (Some f) g =
         let on = within.forward f g in
-        onwards_stay below more start next f s (answered_named table endpoint o named) next_stays on.1 (each f.object on.0) (sending_onward below (still start pair) sending f g)
+        onwards_stay below more start next f s (answered_named table endpoint o named) next_stays on.1 (each f.object on.0) (sending_goes below (still start pair) sending f g).on
 
 frame_stays : Below → (start : Start) (frame : Frame) (table : Table) → IsStart start → AreNamed table → EndsStay start table → EndsStay start (behind_frame start frame table)
 frame_stays below start frame table s named stays = by_heard (is_heard start table frame) refl frame.kind where

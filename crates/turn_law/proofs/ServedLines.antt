@@ -23,14 +23,14 @@ use Rattle.turn_law.proofs.Touching.{AreNamed, answered_named, answers_touch, on
 use Rattle.turn_law.proofs.Within.{StaysWithin, sending_within}
 
 -- something weighs one at least
-some_weight : (one : Sent) → (k : ℕ) × (weight_of one.sending ≡ suc k)
+pub some_weight : (one : Sent) → (k : ℕ) × (weight_of one.sending ≡ suc k)
 some_weight one = by_weight (weight_of one.sending) (let some = something_weighs (one ∷ []) one (contains_here one []) in omega (arith, some)) where
   by_weight : (w : ℕ) → 0 < w → (k : ℕ) × (w ≡ suc k)
   by_weight zero less = absurd (omega arith)
   by_weight (suc k) less = (k, refl)
 
 -- the first answer, and then those on the ends of mounts
-one_answer : (start : Start) (more : ℕ) (endpoint : ℕ) (sending : Sending) (table : Table) (pair : Bound × Position) → table.life endpoint ≡ Some pair →
+pub one_answer : (start : Start) (more : ℕ) (endpoint : ℕ) (sending : Sending) (table : Table) (pair : Bound × Position) → table.life endpoint ≡ Some pair →
     answers (suc more) start endpoint sending table ≡ onward (answers more start) (outcome_of_sending (still start pair) sending).forward (answered table endpoint (outcome_of_sending (still start pair) sending))
 unfolding answers
 one_answer start more endpoint sending table pair lives =

@@ -21,7 +21,7 @@ use Rattle.turn_law.proofs.Linked.{named_more, named_uncarried}
 use Rattle.turn_law.proofs.LinkedSteps.{fewer_once, new_each}
 use Rattle.turn_law.proofs.Touching.{frames_touch, same_table, then_same}
 
-named_later : (start : Start) (later base : List Frame) (n : ℕ) → is_named start base n ≡ true → is_named start (later ++ base) n ≡ true
+pub named_later : (start : Start) (later base : List Frame) (n : ℕ) → is_named start base n ≡ true → is_named start (later ++ base) n ≡ true
 named_later start [] base n named = named
 named_later start (frame ∷ later) base n named = named_more start n frame (later ++ base) (named_later start later base n named)
 

@@ -56,7 +56,7 @@ pub record Reaches (start : Start) (journal : Journal) (frames : List Frame) : T
   pub makes : journal_of start steps ≡ journal
   pub frames_are : frames_in steps ≡ frames
 
-service_reaches : (start : Start) (journal : Journal) (frames : List Frame) (one : Sent) → Reaches start journal frames → head start (history_of start journal) one.endpoint ≡ Some one → Reaches start (after_serving start journal one) frames
+pub service_reaches : (start : Start) (journal : Journal) (frames : List Frame) (one : Sent) → Reaches start journal frames → head start (history_of start journal) one.endpoint ≡ Some one → Reaches start (after_serving start journal one) frames
 unfolding journal_of
 service_reaches start journal frames one r first = record {
   steps = service one ∷ r.steps;
@@ -65,7 +65,7 @@ service_reaches start journal frames one r first = record {
   frames_are = r.frames_are;
 }
 
-arrival_reaches : (start : Start) (journal : Journal) (frames : List Frame) (frame : Frame) → Reaches start journal frames → IsFrame ToServers frame → CanArrive start journal frame frame.kind →
+pub arrival_reaches : (start : Start) (journal : Journal) (frames : List Frame) (frame : Frame) → Reaches start journal frames → IsFrame ToServers frame → CanArrive start journal frame frame.kind →
     Reaches start (arrives start journal frame) (with_sending frame.kind frame frames)
 unfolding journal_of
 arrival_reaches start journal frames frame r is can = record {

@@ -30,7 +30,7 @@ pub record AreNamed (table : Table) : Type 0 where
 pub pair_same : {x y : Bound × Position} → Some x ≡ Some y → x ≡ y
 pair_same e = cc
 
-start_named : (start : Start) → AreNamed (table_at_start start)
+pub start_named : (start : Start) → AreNamed (table_at_start start)
 start_named start = record { own = λ n pair e. by_find n pair (find (λ bound. bound.endpoint == n) (start.firsts ++ start.mounts)) refl e } where
   by_find : (n : ℕ) (pair : Bound × Position) (o : Option Bound) → find (λ bound. bound.endpoint == n) (start.firsts ++ start.mounts) ≡ o → option_map newborn o ≡ Some pair → pair.0.endpoint ≡ n
   by_find n pair None is e = absurd (cc)
@@ -43,7 +43,7 @@ moved_endpoint served position pair = by_test (pair.0.endpoint == served) where
   by_test true = refl
   by_test false = refl
 
-life_by : Bool → Bool → Option (Bound × Position) → Option (Bound × Position) → Option (Bound × Position)
+pub life_by : Bool → Bool → Option (Bound × Position) → Option (Bound × Position) → Option (Bound × Position)
 life_by ended bound new old = if ended then None else if bound then new else old
 
 named_by : (n : ℕ) (pair : Bound × Position) (served : ℕ) (o : Outcome) (old : Option (Bound × Position)) → ((p : Bound × Position) → old ≡ Some p → p.0.endpoint ≡ n) → (ended : Bool) (is_bound : Bool) →
@@ -94,14 +94,14 @@ untouched : (n served : ℕ) (handles : List ℕ) → served ≢ n → among n h
 untouched n served handles other uncarried m (inl e) same = other (sym e ∙ same)
 untouched n served handles other uncarried m (inr h) same = true≢false (sym h ∙ ap (λ (k : ℕ). among k handles) same ∙ uncarried)
 
-all_untouched : (n served : ℕ) (handles : List ℕ) (frames : List Frame) → served ≢ n → among n handles ≡ false → All (λ frame. IsTouched served handles frame.endpoint) frames → All (λ frame. frame.endpoint ≢ n) frames
+pub all_untouched : (n served : ℕ) (handles : List ℕ) (frames : List Frame) → served ≢ n → among n handles ≡ false → All (λ frame. IsTouched served handles frame.endpoint) frames → All (λ frame. frame.endpoint ≢ n) frames
 all_untouched n served handles frames other uncarried h = All-weaker (λ (f : Frame). IsTouched served handles f.endpoint) (λ (f : Frame). f.endpoint ≢ n) (λ f. untouched n served handles other uncarried f.endpoint) frames h
 
 pub unbound_by : (n : ℕ) (handles : List ℕ) → among n handles ≡ false → (o : Option Bound) → ((bound : Bound) → o ≡ Some bound → among bound.endpoint handles ≡ true) → option_map_or (λ bound. bound.endpoint == n) o false ≡ false
 unbound_by n handles uncarried None h = refl
 unbound_by n handles uncarried (Some bound) h = ne_eqb bound.endpoint n (λ e. true≢false (sym (h bound refl) ∙ ap (λ (k : ℕ). among k handles) e ∙ uncarried))
 
-unmoved : (n served : ℕ) (position : Position) (old : Option (Bound × Position)) → ((pair : Bound × Position) → old ≡ Some pair → pair.0.endpoint ≡ n) → served ≢ n → option_map (moved served position) old ≡ old
+pub unmoved : (n served : ℕ) (position : Position) (old : Option (Bound × Position)) → ((pair : Bound × Position) → old ≡ Some pair → pair.0.endpoint ≡ n) → served ≢ n → option_map (moved served position) old ≡ old
 unmoved n served position None own other = refl
 unmoved n served position (Some pair) own other =
     ap (λ (b : Bool). Some (if b then (pair.0, position) else pair)) (ne_eqb pair.0.endpoint served (λ e. other (sym e ∙ own pair refl)))
@@ -127,7 +127,7 @@ then_same h g = record { life = h.life ∙ g.life; told = h.told ∙ g.told }
 pub same_table : (n : ℕ) (table : Table) → SaySame n table table
 same_table n table = record { life = refl; told = refl }
 
-uncarried_object : (n object : ℕ) (handles : List ℕ) → among n handles ≡ false → among object handles ≡ true → among n (object ∷ []) ≡ false
+pub uncarried_object : (n object : ℕ) (handles : List ℕ) → among n handles ≡ false → among object handles ≡ true → among n (object ∷ []) ≡ false
 uncarried_object n object handles uncarried carried =
     ap (λ (b : Bool). b || false) (ne_eqb object n (λ e. true≢false (sym carried ∙ ap (λ (k : ℕ). among k handles) e ∙ uncarried)))
 

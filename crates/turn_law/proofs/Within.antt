@@ -1,6 +1,7 @@
 -- What an answer touches: the endpoint that it is given on, and what the message carries.
-use Rattle.std.proofs.Common.{◌≡◌, ℕ, ◌<◌, ◌==◌, ◌||◌, ◌⊎◌, Bool, true, false, nat_lt, List, [], ◌∷◌, Option, Some, Ok, Err, All, refl, sym, subst, inl, inr, arith, if◌then◌else◌}
-use Rattle.std.proofs.lemmas.Bool.{eqb-true, false_from_ne_true, and_parts, ltb-true}
+use Rattle.std.proofs.Common.{◌≡◌, ℕ, ◌<◌, ◌==◌, ◌||◌, ◌⊎◌, Bool, true, false, nat_lt, List, [], ◌∷◌, Option, Some, None, Ok, Err, All, refl, sym, subst, inl, inr, arith, if◌then◌else◌}
+use Rattle.std.specs.Option.{option_map_or}
+use Rattle.std.proofs.lemmas.Bool.{and_parts, eq-eqb, eqb-true, false_from_ne_true, ltb-true, or_left, or_right}
 use Rattle.std.proofs.lemmas.List.Elements.{All-cons, All-nil}
 use Rattle.fidl_names.specs.HandleNumber.{end_of_mount, is_client}
 use Rattle.wire_laws.specs.Laws.{SpelledWhereRead}
@@ -15,6 +16,7 @@ use Rattle.io_messages.specs.declared.requests.RequestFault.TheVariants.{Malform
 use Rattle.node_graph.specs.Tree.{Tree}
 use Rattle.conn_rules.specs.declared.births.Room.{Room}
 use Rattle.conn_rules.specs.Answers.{Act, Answer, binds, closes, ends, forwards, hangs_up, only, refuses, replies, silent, watches}
+use Rattle.vfs_journal.specs.Deaths.{is_settled}
 use Rattle.vfs_journal.specs.Entries.{Sending, hang_up, handles_of, message}
 use Rattle.vfs_journal.specs.Outcomes.{Asker, Forwarded, Outcome, outcome_with}
 use Rattle.vfs_journal.specs.Serving.{Moment, Read, asker_of, context_at, fault_answer, fault_txid, object_of, outcome_of_message, outcome_of_read, outcome_of_sending, read_by, request_act}
@@ -31,8 +33,10 @@ pub record StaysWithin (served : ℕ) (handles : List ℕ) (o : Outcome) : Type 
   pub bound : (bound : Bound) → o.bound ≡ Some bound → among bound.endpoint handles ≡ true
   pub forward : (forward : Forwarded) → o.forward ≡ Some forward → (among forward.object handles ≡ true) × (is_client forward.endpoint ≡ false)
   pub frames : All (λ frame. IsTouched served handles frame.endpoint) o.frames
+  pub alone : All (λ frame. (frame.endpoint ≡ served) ⊎ (is_settled o frame.endpoint ≡ true)) o.frames
+  pub onward : (forward : Forwarded) → o.forward ≡ Some forward → (o.frames ≡ []) × (o.ends ≡ []) × (o.bound ≡ None)
 
-among_one : (n m : ℕ) → among n (m ∷ []) ≡ true → n ≡ m
+pub among_one : (n m : ℕ) → among n (m ∷ []) ≡ true → n ≡ m
 among_one n m h = by_test (m == n) refl h where
   by_test : (b : Bool) → (m == n) ≡ b → (b || false) ≡ true → n ≡ m
   by_test true is h = sym (eqb-true m n is)
@@ -67,42 +71,78 @@ one_frame served handles frame h = All-cons (λ f. IsTouched served handles f.en
 two_frames : (served : ℕ) (handles : List ℕ) (frame other : Frame) → IsTouched served handles frame.endpoint → IsTouched served handles other.endpoint → Each served handles (frame ∷ other ∷ [])
 two_frames served handles frame other h g = All-cons (λ f. IsTouched served handles f.endpoint) frame (other ∷ []) h (one_frame served handles other g)
 
+-- what an answer binds or ends is settled
+bound_settled : (o : Outcome) (n : ℕ) → option_map_or (λ bound. bound.endpoint == n) o.bound false ≡ true → is_settled o n ≡ true
+bound_settled o n h = or_left (option_map_or (λ bound. bound.endpoint == n) o.bound false) _ h
+
+ended_settled : (o : Outcome) (n : ℕ) → among n o.ends ≡ true → is_settled o n ≡ true
+ended_settled o n h = or_right (option_map_or (λ bound. bound.endpoint == n) o.bound false) _ (or_left (among n o.ends) _ h)
+
+abbrev Lone : ℕ → Outcome → Frame → Type 0
+Lone served o frame = (frame.endpoint ≡ served) ⊎ (is_settled o frame.endpoint ≡ true)
+
+one_lone : (served : ℕ) (o : Outcome) (frame : Frame) → Lone served o frame → All (Lone served o) (frame ∷ [])
+one_lone served o frame h = All-cons (Lone served o) frame [] h (All-nil (Lone served o))
+
+two_lone : (served : ℕ) (o : Outcome) (frame other : Frame) → Lone served o frame → Lone served o other → All (Lone served o) (frame ∷ other ∷ [])
+two_lone served o frame other h g = All-cons (Lone served o) frame (other ∷ []) h (one_lone served o other g)
+
+announced_lone : (served : ℕ) (o : Outcome) (frame : Frame) (b : Bool) → Lone served o frame → All (Lone served o) (if b then frame ∷ [] else [])
+announced_lone served o frame true h = one_lone served o frame h
+announced_lone served o frame false h = All-nil (Lone served o)
+
+one_among : (n : ℕ) → among n (n ∷ []) ≡ true
+one_among n = or_left (n == n) false (eq-eqb n n refl)
+
 announced_frames : (asker : Asker) (handles : List ℕ) (frame : Frame) (b : Bool) → IsTouched asker.endpoint handles frame.endpoint → Each asker.endpoint handles (if b then frame ∷ [] else [])
 announced_frames asker handles frame true h = one_frame asker.endpoint handles frame h
 announced_frames asker handles frame false h = All-nil (λ f. IsTouched asker.endpoint handles f.endpoint)
 
 answer_within : (asker : Asker) (act : Act) (handles : List ℕ) → (UsesObject act.answer → among asker.object handles ≡ true) → StaysWithin asker.endpoint handles (outcome_with asker act)
 answer_within asker act handles carried = by_answer act.answer carried where
+  by : Answer → Outcome
+  by answer = outcome_with asker (record { answer = answer; position = act.position; change = act.change; told = act.told })
+
   by_answer : (answer : Answer) → (UsesObject answer → among asker.object handles ≡ true) → StaysWithin asker.endpoint handles (outcome_with asker (record { answer = answer; position = act.position; change = act.change; told = act.told }))
-  by_answer (replies a) c = record { ends = λ n h. absurd (cc); bound = λ b e. absurd (cc); forward = λ f e. absurd (cc); frames = one_frame asker.endpoint handles _ (inl refl) }
-  by_answer closes c = record { ends = λ n h. inl (among_one n asker.endpoint h); bound = λ b e. absurd (cc); forward = λ f e. absurd (cc); frames = two_frames asker.endpoint handles _ _ (inl refl) (inl refl) }
+  by_answer (replies a) c = record { ends = λ n h. absurd (cc); bound = λ b e. absurd (cc); forward = λ f e. absurd (cc); frames = one_frame asker.endpoint handles _ (inl refl); alone = one_lone asker.endpoint (by (replies a)) _ (inl refl); onward = λ f e. absurd (cc) }
+  by_answer closes c = record { ends = λ n h. inl (among_one n asker.endpoint h); bound = λ b e. absurd (cc); forward = λ f e. absurd (cc); frames = two_frames asker.endpoint handles _ _ (inl refl) (inl refl); alone = two_lone asker.endpoint (by closes) _ _ (inl refl) (inl refl); onward = λ f e. absurd (cc) }
   by_answer (binds birth announced) c = record {
     ends = λ n h. absurd (cc);
     bound = λ b e. subst (λ (x : Bound). among x.endpoint handles ≡ true) (bound_same e) (c tt);
     forward = λ f e. absurd (cc);
     frames = announced_frames asker handles _ announced (inr (c tt));
+    alone = announced_lone asker.endpoint (by (binds birth announced)) _ announced (inr (bound_settled (by (binds birth announced)) asker.object (eq-eqb asker.object asker.object refl)));
+    onward = λ f e. absurd (cc);
   }
   by_answer (watches mask) c = record {
     ends = λ n h. absurd (cc);
     bound = λ b e. subst (λ (x : Bound). among x.endpoint handles ≡ true) (bound_same e) (c tt);
     forward = λ f e. absurd (cc);
     frames = one_frame asker.endpoint handles _ (inl refl);
+    alone = one_lone asker.endpoint (by (watches mask)) _ (inl refl);
+    onward = λ f e. absurd (cc);
   }
   by_answer (forwards mount flags rest) c = record {
     ends = λ n h. absurd (cc);
     bound = λ b e. absurd (cc);
     forward = λ f e. subst (λ (x : Forwarded). (among x.object handles ≡ true) × (is_client x.endpoint ≡ false)) (forward_same e) (c tt, end_is_no_client mount);
     frames = All-nil (λ f. IsTouched asker.endpoint handles f.endpoint);
+    alone = All-nil (Lone asker.endpoint (by (forwards mount flags rest)));
+    onward = λ f e. (refl, refl, refl);
   }
   by_answer (refuses status) c = record {
     ends = λ n h. inr (subst (λ (m : ℕ). among m handles ≡ true) (sym (among_one n asker.object h)) (c tt));
     bound = λ b e. absurd (cc);
     forward = λ f e. absurd (cc);
     frames = two_frames asker.endpoint handles _ _ (inr (c tt)) (inr (c tt));
+    alone =
+        two_lone asker.endpoint (by (refuses status)) _ _ (inr (ended_settled (by (refuses status)) asker.object (one_among asker.object)))
+        (inr (ended_settled (by (refuses status)) asker.object (one_among asker.object)));
+    onward = λ f e. absurd (cc);
   }
-  by_answer (ends status) c = record { ends = λ n h. inl (among_one n asker.endpoint h); bound = λ b e. absurd (cc); forward = λ f e. absurd (cc); frames = two_frames asker.endpoint handles _ _ (inl refl) (inl refl) }
-  by_answer hangs_up c = record { ends = λ n h. inl (among_one n asker.endpoint h); bound = λ b e. absurd (cc); forward = λ f e. absurd (cc); frames = All-nil (λ f. IsTouched asker.endpoint handles f.endpoint) }
-  by_answer silent c = record { ends = λ n h. absurd (cc); bound = λ b e. absurd (cc); forward = λ f e. absurd (cc); frames = All-nil (λ f. IsTouched asker.endpoint handles f.endpoint) }
+  by_answer (ends status) c = record { ends = λ n h. inl (among_one n asker.endpoint h); bound = λ b e. absurd (cc); forward = λ f e. absurd (cc); frames = two_frames asker.endpoint handles _ _ (inl refl) (inl refl); alone = two_lone asker.endpoint (by (ends status)) _ _ (inl refl) (inl refl); onward = λ f e. absurd (cc) }
+  by_answer hangs_up c = record { ends = λ n h. inl (among_one n asker.endpoint h); bound = λ b e. absurd (cc); forward = λ f e. absurd (cc); frames = All-nil (λ f. IsTouched asker.endpoint handles f.endpoint); alone = All-nil (Lone asker.endpoint (by hangs_up)); onward = λ f e. absurd (cc) }
+  by_answer silent c = record { ends = λ n h. absurd (cc); bound = λ b e. absurd (cc); forward = λ f e. absurd (cc); frames = All-nil (λ f. IsTouched asker.endpoint handles f.endpoint); alone = All-nil (Lone asker.endpoint (by silent)); onward = λ f e. absurd (cc) }
 
 -- ---- by the request
 

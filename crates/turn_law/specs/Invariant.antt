@@ -135,3 +135,13 @@ ServingsAreAnsweredStill =
     (start : Start) (steps : List Step) (one : Sent) (bound : Bound) → IsStart start → AreSteps start (service one ∷ steps) →
     StepsKeepPremises start (service one ∷ steps) →
     bound_at start (past_of start steps) one.endpoint ≡ Some bound → IsAnsweredStill start (journal_of start steps) one bound
+
+-- and behind each serving
+abbrev pub ServingsAgree : Type 0
+ServingsAgree =
+    (start : Start) (steps : List Step) (one : Sent) → IsStart start → AreSteps start (service one ∷ steps) →
+    StepsKeepPremises start (service one ∷ steps) → Agrees start steps → Agrees start (service one ∷ steps)
+
+-- so they do behind all steps
+abbrev pub StepsAgree : Type 0
+StepsAgree = (start : Start) (steps : List Step) → IsStart start → AreSteps start steps → StepsKeepPremises start steps → Agrees start steps

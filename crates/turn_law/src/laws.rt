@@ -1,8 +1,9 @@
 //! Laws of sessions in which nobody changes anything. They compute nothing: what they say is in their clauses.
 
 ghost use Rattle.fidl_wire.specs.Names.{AreDistinct};
+ghost use Rattle.turn_law.specs.Answers.{AnswersAreTold, JournalsAreOfFrames, SessionsAreTold};
 ghost use Rattle.turn_law.specs.Counting.{FramesAreHeardWhereTheyCount, FramesAreLinked, FramesThatCountAreAdmitted};
-ghost use Rattle.turn_law.specs.Invariant.{ArrivalsAgree, BeginningsAgree, ServingsAreAnsweredStill, WhereNothingWaitsAllIsTold};
+ghost use Rattle.turn_law.specs.Invariant.{ArrivalsAgree, BeginningsAgree, ServingsAgree, ServingsAreAnsweredStill, StepsAgree, WhereNothingWaitsAllIsTold};
 ghost use Rattle.turn_law.specs.Quiet.{QuietSessionsStayStill};
 ghost use Rattle.turn_law.specs.Room.{AnswersAreStill};
 ghost use Rattle.turn_law.specs.Tables.{FramesTouchTheirOwn};
@@ -74,4 +75,32 @@ pub fn where_nothing_waits_all_is_told()
 /// messages of that answer are all that is written; where no two names have equal ordinals.
 pub fn servings_are_answered_still()
     ensures { AreDistinct → ServingsAreAnsweredStill }
+{}
+
+/// Where each endpoint is as the table says, it is so behind each serving of what waits first on an endpoint, where no handle stands twice,
+/// nothing changes and no limit is met; where no two names have equal ordinals.
+pub fn servings_agree()
+    ensures { AreDistinct → ServingsAgree }
+{}
+
+/// So each endpoint is as the table says behind all steps.
+pub fn steps_agree()
+    ensures { AreDistinct → StepsAgree }
+{}
+
+/// Turns don't matter to readers: of each journal that frames and servings made, in whatever order, where no handle stands twice, nothing
+/// changes, no limit is met and nothing waits at the end, the messages on each endpoint are those that it is told behind these frames; where
+/// no two names have equal ordinals.
+pub fn answers_are_told()
+    ensures { AreDistinct → AnswersAreTold }
+{}
+
+/// So of each ended session, in either mode.
+pub fn sessions_are_told()
+    ensures { AreDistinct → SessionsAreTold }
+{}
+
+/// Each lawful journal is made by frames and servings.
+pub fn journals_are_of_frames()
+    ensures { JournalsAreOfFrames }
 {}
