@@ -39,6 +39,10 @@ is_message_on endpoint frame = is_message frame.kind && (frame.endpoint == endpo
 abbrev pub is_close_on : ℕ → Frame → Bool
 is_close_on endpoint frame = is_close frame.kind && (frame.endpoint == endpoint)
 
+-- what a frame that is no message on the endpoint makes of the copy: a Close frame there ends it, and all else stays
+abbrev pub behind_other : Copy → Frame → Copy
+behind_other copy frame = record copy { ended = is_close_on copy.endpoint frame || copy.ended }
+
 -- ---- events
 
 -- the bytes of a message are these events and no more, and each is an event that there is

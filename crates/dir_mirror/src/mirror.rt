@@ -1,10 +1,10 @@
-ghost use Rattle.std.specs.Prelude.{◌≡◌, ◌++◌, ◌∷◌, [], List, IfSome, IsNone, OnOk, OnErr, Err};
+ghost use Rattle.std.specs.Prelude.{◌≡◌, ◌++◌, ◌∷◌, [], List, false, IfSome, IsNone, IsOk, OnOk, OnErr, Err};
 ghost use Rattle.std.specs.List.{list_any};
 ghost use Rattle.std.specs.Iterator.{YieldsFirstBy, item_count};
 ghost use Rattle.link_frames.specs.Frames.{Frame};
 ghost use Rattle.link_frames.specs.Views.{frame_of};
 ghost use Rattle.watch_events.specs.Events.{Event};
-ghost use Rattle.dir_mirror.specs.Copies.{AreGood, HasBadEvents, HasGoodEvents, Mirrors, is_deletion};
+ghost use Rattle.dir_mirror.specs.Copies.{AreGood, HasBadEvents, HasGoodEvents, Mirrors, behind_other, is_deletion, is_message_on};
 ghost use Rattle.dir_mirror.specs.Steps.{TakesEvents};
 ghost use Rattle.dir_mirror.specs.declared.mirror.MirrorFault.TheVariants as fault;
 
@@ -72,10 +72,12 @@ impl Mirror {
     }
 
     /// Takes the next frame. A Message on the endpoint is read as events, whatever it is; a Close frame on it ends the copy, and
-    /// other frames say nothing. Behind a fault the copy is as it was.
+    /// other frames say nothing. Only a message on the endpoint may have a fault, and behind one the copy is as it was.
     pub fn take(&mut self, frame: FrameView<'_>) -> Result<(), MirrorFault>
         ensures endpoint { self.new.endpoint ≡ self.old.endpoint }
         ensures taken { (frames : List Frame) → Mirrors self.old frames → OnOk result (Mirrors self.new (frames ++ frame_of frame.entry ∷ [])) }
+        ensures heard { is_message_on self.old.endpoint (frame_of frame.entry) ≡ false → IsOk result }
+        ensures others { is_message_on self.old.endpoint (frame_of frame.entry) ≡ false → self.new ≡ behind_other self.old (frame_of frame.entry) }
         ensures good { OnOk result (HasGoodEvents self.old.endpoint (frame_of frame.entry)) }
         ensures bad { result ≡ Err fault.BadEvents → HasBadEvents self.old.endpoint (frame_of frame.entry) }
         ensures unchanged { OnErr result (self.new ≡ self.old) }
