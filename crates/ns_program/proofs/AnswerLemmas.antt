@@ -1,25 +1,22 @@
 -- Causes of the script after the table was read, and the one meaning of the words.
-use Rattle.std.proofs.Common.{◌≡◌, ℕ, ◌≤◌, List, [], get_or, ap, sym, ◌∙◌, subst, arith}
-use Rattle.host_io.specs.Causes.{Rose}
-use Rattle.host_io.specs.Told.{Told, IsLongerThan}
+use Rattle.std.proofs.Common.{◌≡◌, ℕ, List, [], get_or, ap, sym, ◌∙◌, subst}
+use Rattle.host_io.specs.Told.{Told}
 use Rattle.fidl_names.specs.declared.limits.TheConstants as limit
+use Rattle.run_status.proofs.FoundFiles.{still_lacks}
 use Rattle.run_status.specs.Files.{StillTold}
 use Rattle.run_status.specs.Outside.{FilesTold}
 use Rattle.io_namespace.specs.Entries.{Table}
 use Rattle.ns_program.specs.Answers.{HasNoScript}
 use Rattle.ns_program.specs.Rewriting.{IsScript, IsLostScript}
+use Rattle.ns_program.specs.Statuses.{fault_in}
 use Rattle.ns_program.specs.Words.{Asks, Means}
 use Rattle.ns_program.specs.declared.statuses.NsStatus.{NsStatus}
 use Rattle.ns_program.specs.declared.statuses.NsStatus.TheVariants as status
 
-rose_before : (before mid after : ℕ) → before ≤ mid → Rose mid after → Rose before after
-rose_before before mid after later rose = omega (arith, later, rose)
-
 pub still_no_script : (table : Table) (name : List ℕ) (before mid after : FilesTold) → StillTold before mid → (s : NsStatus) → HasNoScript table name mid after s → HasNoScript table name before after s
 still_no_script table name before mid after still (status.LineRefused line) h = subst (λ (t : Told). IsLostScript table t line) (still.told name) h
-still_no_script table name before mid after still status.FileFault h = rose_before _ _ _ (still.faults name) h
-still_no_script table name before mid after still status.FileTooLarge h =
-    (rose_before _ _ _ (still.overlong name) h.0, subst (IsLongerThan limit.MAX_TEXT) (still.told name) h.1)
+still_no_script table name before mid after still status.FileFault h = still_lacks limit.MAX_TEXT name before mid after still fault_in status.FileFault h
+still_no_script table name before mid after still status.FileTooLarge h = still_lacks limit.MAX_TEXT name before mid after still fault_in status.FileTooLarge h
 still_no_script table name before mid after still status.NoMemory h = h
 still_no_script table name before mid after still status.Done h = h
 still_no_script table name before mid after still status.Usage h = h

@@ -1,7 +1,7 @@
 -- Where no line is refused, and no fault is met, all is done unless memory runs out.
-use Rattle.std.proofs.Common.{◌≡◌, ℕ, ◌≤◌, List, length, subst, arith, inl, inr}
+use Rattle.std.proofs.Common.{ℕ, List, subst, inl, inr}
 use Rattle.fidl_names.specs.declared.limits.TheConstants as limit
-use Rattle.host_io.specs.Told.{Told, Holds, IsAllOf, IsLongerThan}
+use Rattle.run_status.proofs.FoundFiles.{not_large, same_text}
 use Rattle.run_status.specs.Outside.{FilesTold, SinkTold}
 use Rattle.io_namespace.specs.Entries.{Table}
 use Rattle.ns_program.specs.Answers.{Answers, HasNoScript, HasNoTable, IsDoneOrNoMemory, IsServable, NoFault, Writes}
@@ -11,17 +11,11 @@ use Rattle.ns_program.specs.Words.{Asks}
 use Rattle.ns_program.specs.declared.statuses.NsStatus.{NsStatus}
 use Rattle.ns_program.specs.declared.statuses.NsStatus.TheVariants as status
 
-same_text : (told : Told) (all text : List ℕ) → told ≡ Holds all → IsAllOf told text → text ≡ all
-same_text told all text is whole = subst (λ (t : Told). IsAllOf t text) is whole
-
-not_long : (told : Told) (all : List ℕ) → told ≡ Holds all → length all ≤ limit.MAX_TEXT → IsLongerThan limit.MAX_TEXT told → ⊥
-not_long told all is few long = let more = subst (IsLongerThan limit.MAX_TEXT) is long in omega (arith, few, more)
-
 no_table : (asks : Asks) (before after : FilesTold) (sb sa : SinkTold) → IsServable asks before → NoFault asks before after sb sa → (s : NsStatus) → HasNoTable asks.table before after s → IsDoneOrNoMemory s
 no_table asks before after sb sa is fine (status.TableRefused line) h =
     is.none_refused line (subst (λ (t : List ℕ). IsRefusedAt (lines_of t) line) (same_text (before.told asks.table) is.table h.text is.table_told h.within.0) h.refused)
 no_table asks before after sb sa is fine status.FileFault h = fine.table h
-no_table asks before after sb sa is fine status.FileTooLarge h = not_long (before.told asks.table) is.table is.table_told is.table_few h.1
+no_table asks before after sb sa is fine status.FileTooLarge h = not_large limit.MAX_TEXT (before.told asks.table) is.table is.table_told is.table_few h.1
 no_table asks before after sb sa is fine status.NoMemory h = tt
 no_table asks before after sb sa is fine status.Done h = tt
 no_table asks before after sb sa is fine status.Usage h = h
@@ -35,7 +29,7 @@ no_script asks before after sb sa is fine table said (status.LineRefused line) h
     (subst (λ (t : List ℕ). Says (lines_of t) table) (same_text (before.told asks.table) is.table said.text is.table_told said.within.0) said.says)
     (subst (λ (t : List ℕ). IsLostAt table (lines_of t) line) (same_text (before.told asks.script) is.script h.text is.script_told h.within.0) h.lost)
 no_script asks before after sb sa is fine table said status.FileFault h = fine.script h
-no_script asks before after sb sa is fine table said status.FileTooLarge h = not_long (before.told asks.script) is.script is.script_told is.script_few h.1
+no_script asks before after sb sa is fine table said status.FileTooLarge h = not_large limit.MAX_TEXT (before.told asks.script) is.script is.script_told is.script_few h.1
 no_script asks before after sb sa is fine table said status.NoMemory h = tt
 no_script asks before after sb sa is fine table said status.Done h = tt
 no_script asks before after sb sa is fine table said status.Usage h = h
