@@ -130,21 +130,7 @@ request_onward below asker room tree (asks.clone endpoint) answer handles weight
 request_onward below asker room tree (asks.watch mask options watcher) answer handles weight at h c w forward e = none_onward asker answer (λ m f r is. subst IsWatch is h) forward e
 request_onward below asker room tree asks.close answer handles weight at h c w forward e = none_onward asker answer (λ m f r is. subst IsClose is h) forward e
 request_onward below asker room tree asks.get_token answer handles weight at h c w forward e = none_onward asker answer (λ m f r is. subst (IsToken room.token) is h) forward e
-request_onward below asker room tree asks.query answer handles weight at h c w forward e = none_onward asker answer (λ m f r is. subst IsReply is h) forward e
-request_onward below asker room tree (asks.get_attributes bits) answer handles weight at h c w forward e = none_onward asker answer (λ m f r is. subst IsReply is h) forward e
-request_onward below asker room tree asks.sync answer handles weight at h c w forward e = none_onward asker answer (λ m f r is. subst IsReply is h) forward e
-request_onward below asker room tree (asks.read_dirents most) answer handles weight at h c w forward e = none_onward asker answer (λ m f r is. subst IsReply is h) forward e
-request_onward below asker room tree asks.rewind answer handles weight at h c w forward e = none_onward asker answer (λ m f r is. subst IsReply is h) forward e
-request_onward below asker room tree (asks.rename src token dst) answer handles weight at h c w forward e = none_onward asker answer (λ m f r is. subst IsReply is h) forward e
-request_onward below asker room tree (asks.link src token dst) answer handles weight at h c w forward e = none_onward asker answer (λ m f r is. subst IsReply is h) forward e
-request_onward below asker room tree (asks.unlink name flags) answer handles weight at h c w forward e = none_onward asker answer (λ m f r is. subst IsReply is h) forward e
-request_onward below asker room tree (asks.read count) answer handles weight at h c w forward e = none_onward asker answer (λ m f r is. subst IsReply is h) forward e
-request_onward below asker room tree (asks.read_at count offset) answer handles weight at h c w forward e = none_onward asker answer (λ m f r is. subst IsReply is h) forward e
-request_onward below asker room tree (asks.write bytes) answer handles weight at h c w forward e = none_onward asker answer (λ m f r is. subst IsReply is h) forward e
-request_onward below asker room tree (asks.write_at bytes offset) answer handles weight at h c w forward e = none_onward asker answer (λ m f r is. subst IsReply is h) forward e
-request_onward below asker room tree (asks.seek origin offset) answer handles weight at h c w forward e = none_onward asker answer (λ m f r is. subst IsReply is h) forward e
-request_onward below asker room tree (asks.resize size) answer handles weight at h c w forward e = none_onward asker answer (λ m f r is. subst IsReply is h) forward e
-request_onward below asker room tree (asks.echo_string value) answer handles weight at h c w forward e = none_onward asker answer (λ m f r is. subst IsReply is h) forward e
+request_onward below asker room tree _ answer handles weight at h c w forward e = none_onward asker answer (λ m f r is. subst IsReply is h) forward e
 
 request_weighs : Below → (p : Protocol) (bytes handles : List ℕ) (t : ℕ) (a : Asked) → read_by p bytes handles ≡ Ok (t, a) → Weighs (weight_of (message bytes handles)) a
 request_weighs below p bytes handles t (asks.open_path path word given object) e =

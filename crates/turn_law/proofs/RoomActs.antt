@@ -81,26 +81,17 @@ module _ (birth : Birth) (position : Position) (room : Room) (tree : Tree) (dire
 
   row_alike : (request : Asked) → is_change request ≡ false → IsSameOrFull position (row_act here request) (row_act alone request)
   row_alike (asks.clone endpoint) e = unless_either _ _ position method.Clone (only position (binds birth false)) refl (last_refusal [] (is_full room) status.NoResources)
-  row_alike asks.close e = inl refl
-  row_alike asks.query e = inl refl
-  row_alike (asks.get_attributes bits) e = inl refl
-  row_alike asks.sync e = inl refl
   row_alike (asks.open_path path word given object) e =
       unless_both (first_of (entry_refusals birth word path)) position method.OpenPath _ _ (walk_alike word (walk tree word (names_of path) birth.node))
-  row_alike (asks.read_dirents most) e = inl refl
-  row_alike asks.rewind e = inl refl
   row_alike asks.get_token e = absurd (cc)
   row_alike (asks.rename src token dst) e = absurd (cc)
   row_alike (asks.link src token dst) e = absurd (cc)
   row_alike (asks.unlink name flags) e = absurd (cc)
   row_alike (asks.watch mask options watcher) e = absurd (cc)
-  row_alike (asks.read count) e = inl refl
-  row_alike (asks.read_at count offset) e = inl refl
   row_alike (asks.write bytes) e = absurd (cc)
   row_alike (asks.write_at bytes offset) e = absurd (cc)
-  row_alike (asks.seek origin offset) e = inl refl
   row_alike (asks.resize size) e = absurd (cc)
-  row_alike (asks.echo_string value) e = inl refl
+  row_alike _ e = inl refl
 
   pub act_alike : (request : Asked) → is_change request ≡ false → IsSameOrFull position (act_of here request) (act_of alone request)
   unfolding act_of

@@ -186,21 +186,7 @@ object_carried room tree (asks.open_path path flags given object) answer handles
 object_carried room tree (asks.watch mask options watcher) answer handles h c u = c.here
 object_carried room tree asks.close answer handles h c u = absurd (close_own answer h u)
 object_carried room tree asks.get_token answer handles h c u = absurd (token_own room.token answer h u)
-object_carried room tree asks.query answer handles h c u = absurd (reply_own answer h u)
-object_carried room tree (asks.get_attributes bits) answer handles h c u = absurd (reply_own answer h u)
-object_carried room tree asks.sync answer handles h c u = absurd (reply_own answer h u)
-object_carried room tree (asks.read_dirents most) answer handles h c u = absurd (reply_own answer h u)
-object_carried room tree asks.rewind answer handles h c u = absurd (reply_own answer h u)
-object_carried room tree (asks.rename src token dst) answer handles h c u = absurd (reply_own answer h u)
-object_carried room tree (asks.link src token dst) answer handles h c u = absurd (reply_own answer h u)
-object_carried room tree (asks.unlink name flags) answer handles h c u = absurd (reply_own answer h u)
-object_carried room tree (asks.read count) answer handles h c u = absurd (reply_own answer h u)
-object_carried room tree (asks.read_at count offset) answer handles h c u = absurd (reply_own answer h u)
-object_carried room tree (asks.write bytes) answer handles h c u = absurd (reply_own answer h u)
-object_carried room tree (asks.write_at bytes offset) answer handles h c u = absurd (reply_own answer h u)
-object_carried room tree (asks.seek origin offset) answer handles h c u = absurd (reply_own answer h u)
-object_carried room tree (asks.resize size) answer handles h c u = absurd (reply_own answer h u)
-object_carried room tree (asks.echo_string value) answer handles h c u = absurd (reply_own answer h u)
+object_carried room tree _ answer handles h c u = absurd (reply_own answer h u)
 
 fault_own : (fault : RequestFault) → UsesObject (fault_answer fault) → ⊥
 fault_own (Malformed fault) u = u
