@@ -139,9 +139,12 @@ ServingsAreAnsweredStill =
 -- and behind each serving
 abbrev pub ServingsAgree : Type 0
 ServingsAgree =
-    (start : Start) (steps : List Step) (one : Sent) → IsStart start → AreSteps start (service one ∷ steps) →
-    StepsKeepPremises start (service one ∷ steps) → Agrees start steps → Agrees start (service one ∷ steps)
+    (start : Start) (steps : List Step) (one : Sent) → IsStart start →
+    AreSteps start (service one ∷ steps) → StepsKeepPremises start (service one ∷ steps) →
+    Agrees start steps → Agrees start (service one ∷ steps)
 
 -- so they do behind all steps
 abbrev pub StepsAgree : Type 0
-StepsAgree = (start : Start) (steps : List Step) → IsStart start → AreSteps start steps → StepsKeepPremises start steps → Agrees start steps
+StepsAgree =
+    (start : Start) (steps : List Step) → IsStart start → AreSteps start steps →
+    StepsKeepPremises start steps → Agrees start steps

@@ -77,8 +77,9 @@ pub fn servings_are_answered_still()
     ensures { AreDistinct → ServingsAreAnsweredStill }
 {}
 
-/// Where each endpoint is as the table says, it is so behind each serving of what waits first on an endpoint, where no handle stands twice,
-/// nothing changes and no limit is met; where no two names have equal ordinals.
+/// Where each endpoint is as the table says, it is so behind each serving of what waits first on an
+/// endpoint, where no handle stands twice, nothing changes and no limit is met; where no two names have
+/// equal ordinals.
 pub fn servings_agree()
     ensures { AreDistinct → ServingsAgree }
 {}
@@ -88,9 +89,9 @@ pub fn steps_agree()
     ensures { AreDistinct → StepsAgree }
 {}
 
-/// Turns don't matter to readers: of each journal that frames and servings made, in whatever order, where no handle stands twice, nothing
-/// changes, no limit is met and nothing waits at the end, the messages on each endpoint are those that it is told behind these frames; where
-/// no two names have equal ordinals.
+/// Turns don't matter to readers: of each journal that frames and servings made, in whatever order, where
+/// no handle stands twice, nothing changes, no limit is met and nothing waits at the end, the messages on
+/// each endpoint are those that it is told behind these frames; where no two names have equal ordinals.
 pub fn answers_are_told()
     ensures { AreDistinct → AnswersAreTold }
 {}
