@@ -97,26 +97,14 @@ AsksInBytes (asks.echo_string value) = AreBytes value
 AsksInBytes _ = Unit {0}
 
 asked_in_bytes : (m : Method) (items : List Item) → AreOfBytes items → AsksInBytes (asked_from m items)
-asked_in_bytes method.Clone items h = tt
-asked_in_bytes method.Close items h = tt
-asked_in_bytes method.Query items h = tt
-asked_in_bytes method.GetAttributes items h = tt
-asked_in_bytes method.Sync items h = tt
 asked_in_bytes method.OpenPath items h = text_at 0 items h
-asked_in_bytes method.ReadDirents items h = tt
-asked_in_bytes method.Rewind items h = tt
-asked_in_bytes method.GetToken items h = tt
 asked_in_bytes method.Rename items h = (text_at 0 items h, text_at 3 items h)
 asked_in_bytes method.Link items h = (text_at 0 items h, text_at 3 items h)
 asked_in_bytes method.Unlink items h = text_at 0 items h
-asked_in_bytes method.Watch items h = tt
-asked_in_bytes method.Read items h = tt
-asked_in_bytes method.ReadAt items h = tt
 asked_in_bytes method.Write items h = text_at 0 items h
 asked_in_bytes method.WriteAt items h = text_at 0 items h
-asked_in_bytes method.Seek items h = tt
-asked_in_bytes method.Resize items h = tt
 asked_in_bytes method.EchoString items h = text_at 0 items h
+asked_in_bytes _ items h = tt
 
 spelled_in_bytes : (cells : List Cell) (items : List Item) (bytes : List ℕ) (handles : List Handle) → IsSpelled (struct cells) (fields items) bytes handles → AreBytes bytes → AreOfBytes items
 spelled_in_bytes cells items bytes handles spelled h =
@@ -132,25 +120,7 @@ read_in_bytes p bytes handles txid a reads h =
 
 only_echo : (m : Method) (items : List Item) (value : List ℕ) → asked_from m items ≡ asks.echo_string value → m ≡ method.EchoString
 only_echo method.EchoString items value e = refl
-only_echo method.Clone items value e = absurd (cc)
-only_echo method.Close items value e = absurd (cc)
-only_echo method.Query items value e = absurd (cc)
-only_echo method.GetAttributes items value e = absurd (cc)
-only_echo method.Sync items value e = absurd (cc)
-only_echo method.OpenPath items value e = absurd (cc)
-only_echo method.ReadDirents items value e = absurd (cc)
-only_echo method.Rewind items value e = absurd (cc)
-only_echo method.GetToken items value e = absurd (cc)
-only_echo method.Rename items value e = absurd (cc)
-only_echo method.Link items value e = absurd (cc)
-only_echo method.Unlink items value e = absurd (cc)
-only_echo method.Watch items value e = absurd (cc)
-only_echo method.Read items value e = absurd (cc)
-only_echo method.ReadAt items value e = absurd (cc)
-only_echo method.Write items value e = absurd (cc)
-only_echo method.WriteAt items value e = absurd (cc)
-only_echo method.Seek items value e = absurd (cc)
-only_echo method.Resize items value e = absurd (cc)
+only_echo _ items value e = absurd (cc)
 
 -- a message that spells a text has its padded bytes behind 32 others
 text_size : (value : List ℕ) (first rest part : Part) (bytes : List ℕ) → IsList value first → rest ≡ nothing → part ≡ join first rest →

@@ -57,46 +57,12 @@ object_fits : (a : Asked) (handles : List ℕ) → Carries a handles → FitsWor
 object_fits (asks.clone endpoint) handles h = let low = h.low in omega (arith, low)
 object_fits (asks.open_path path flags attributes object) handles h = let low = h.low in omega (arith, low)
 object_fits (asks.watch mask options watcher) handles h = let low = h.low in omega (arith, low)
-object_fits asks.close handles h = lit< tt
-object_fits asks.query handles h = lit< tt
-object_fits (asks.get_attributes bits) handles h = lit< tt
-object_fits asks.sync handles h = lit< tt
-object_fits (asks.read_dirents most) handles h = lit< tt
-object_fits asks.rewind handles h = lit< tt
-object_fits asks.get_token handles h = lit< tt
-object_fits (asks.rename src token dst) handles h = lit< tt
-object_fits (asks.link src token dst) handles h = lit< tt
-object_fits (asks.unlink name flags) handles h = lit< tt
-object_fits (asks.read count) handles h = lit< tt
-object_fits (asks.read_at count offset) handles h = lit< tt
-object_fits (asks.write bytes) handles h = lit< tt
-object_fits (asks.write_at bytes offset) handles h = lit< tt
-object_fits (asks.seek origin offset) handles h = lit< tt
-object_fits (asks.resize size) handles h = lit< tt
-object_fits (asks.echo_string value) handles h = lit< tt
+object_fits _ handles h = lit< tt
 
 can_echo : Below → (p : Protocol) (bytes handles : List ℕ) (txid : ℕ) (a : Asked) → read_by p bytes handles ≡ Ok (txid, a) → IsMessage bytes → CanEcho a
 can_echo below p bytes handles txid (asks.echo_string value) read h =
     echoes p bytes (map handle_with handles) txid value (what_is_read below.spelled p bytes (map handle_with handles) txid (asks.echo_string value) read) h
-can_echo below p bytes handles txid (asks.clone endpoint) read h = tt
-can_echo below p bytes handles txid asks.close read h = tt
-can_echo below p bytes handles txid asks.query read h = tt
-can_echo below p bytes handles txid (asks.get_attributes bits) read h = tt
-can_echo below p bytes handles txid asks.sync read h = tt
-can_echo below p bytes handles txid (asks.open_path path flags attributes object) read h = tt
-can_echo below p bytes handles txid (asks.read_dirents most) read h = tt
-can_echo below p bytes handles txid asks.rewind read h = tt
-can_echo below p bytes handles txid asks.get_token read h = tt
-can_echo below p bytes handles txid (asks.rename src token dst) read h = tt
-can_echo below p bytes handles txid (asks.link src token dst) read h = tt
-can_echo below p bytes handles txid (asks.unlink name flags) read h = tt
-can_echo below p bytes handles txid (asks.watch mask options watcher) read h = tt
-can_echo below p bytes handles txid (asks.read count) read h = tt
-can_echo below p bytes handles txid (asks.read_at count offset) read h = tt
-can_echo below p bytes handles txid (asks.write bytes') read h = tt
-can_echo below p bytes handles txid (asks.write_at bytes' offset) read h = tt
-can_echo below p bytes handles txid (asks.seek origin offset) read h = tt
-can_echo below p bytes handles txid (asks.resize size) read h = tt
+can_echo below p bytes handles txid _ read h = tt
 
 fault_answered : (fault : RequestFault) → HasReplyFrame (fault_answer fault)
 fault_answered (Malformed fault) = tt

@@ -15,25 +15,7 @@ method_at row = slice_index_or all_methods row method.Clone
 
 pub method_back : (m : Method) → method_at (row_of m) ≡ m
 method_back method.Clone = refl
-method_back method.Close = refl
-method_back method.Query = refl
-method_back method.GetAttributes = refl
-method_back method.Sync = refl
-method_back method.OpenPath = refl
-method_back method.ReadDirents = refl
-method_back method.Rewind = refl
-method_back method.GetToken = refl
-method_back method.Rename = refl
-method_back method.Link = refl
-method_back method.Unlink = refl
-method_back method.Watch = refl
-method_back method.Read = refl
-method_back method.ReadAt = refl
-method_back method.Write = refl
-method_back method.WriteAt = refl
-method_back method.Seek = refl
-method_back method.Resize = refl
-method_back method.EchoString = refl
+method_back _ = refl
 
 abbrev pub method_code : Coded Method
 method_code = code_by ℕ coded_ℕ row_of method_at method_back

@@ -246,21 +246,7 @@ request_parts tree room bound bytes handles txid asks.close answer read c h = cl
 request_parts tree room bound bytes handles txid (asks.open_path path word given object) answer read c h = open_parts room.token tree bound bytes handles txid path word given object answer read c h
 request_parts tree room bound bytes handles txid (asks.watch mask options watcher) answer read c h = watch_parts room.token tree bound (message bytes handles) (asker_of bound txid watcher) answer c h
 request_parts tree room bound bytes handles txid asks.get_token answer read c h = token_parts room.token tree bound (message bytes handles) (asker_of bound txid 0) answer h
-request_parts tree room bound bytes handles txid asks.query answer read c h = plain_parts room.token tree bound (message bytes handles) (asker_of bound txid 0) answer h
-request_parts tree room bound bytes handles txid (asks.get_attributes bits) answer read c h = plain_parts room.token tree bound (message bytes handles) (asker_of bound txid 0) answer h
-request_parts tree room bound bytes handles txid asks.sync answer read c h = plain_parts room.token tree bound (message bytes handles) (asker_of bound txid 0) answer h
-request_parts tree room bound bytes handles txid (asks.read_dirents most) answer read c h = plain_parts room.token tree bound (message bytes handles) (asker_of bound txid 0) answer h
-request_parts tree room bound bytes handles txid asks.rewind answer read c h = plain_parts room.token tree bound (message bytes handles) (asker_of bound txid 0) answer h
-request_parts tree room bound bytes handles txid (asks.rename src token dst) answer read c h = plain_parts room.token tree bound (message bytes handles) (asker_of bound txid 0) answer h
-request_parts tree room bound bytes handles txid (asks.link src token dst) answer read c h = plain_parts room.token tree bound (message bytes handles) (asker_of bound txid 0) answer h
-request_parts tree room bound bytes handles txid (asks.unlink name flags) answer read c h = plain_parts room.token tree bound (message bytes handles) (asker_of bound txid 0) answer h
-request_parts tree room bound bytes handles txid (asks.read count) answer read c h = plain_parts room.token tree bound (message bytes handles) (asker_of bound txid 0) answer h
-request_parts tree room bound bytes handles txid (asks.read_at count offset) answer read c h = plain_parts room.token tree bound (message bytes handles) (asker_of bound txid 0) answer h
-request_parts tree room bound bytes handles txid (asks.write data') answer read c h = plain_parts room.token tree bound (message bytes handles) (asker_of bound txid 0) answer h
-request_parts tree room bound bytes handles txid (asks.write_at data' offset) answer read c h = plain_parts room.token tree bound (message bytes handles) (asker_of bound txid 0) answer h
-request_parts tree room bound bytes handles txid (asks.seek origin offset) answer read c h = plain_parts room.token tree bound (message bytes handles) (asker_of bound txid 0) answer h
-request_parts tree room bound bytes handles txid (asks.resize size) answer read c h = plain_parts room.token tree bound (message bytes handles) (asker_of bound txid 0) answer h
-request_parts tree room bound bytes handles txid (asks.echo_string value) answer read c h = plain_parts room.token tree bound (message bytes handles) (asker_of bound txid 0) answer h
+request_parts tree room bound bytes handles txid _ answer read c h = plain_parts room.token tree bound (message bytes handles) (asker_of bound txid 0) answer h
 
 read_outcome : Below → (moment : Moment) (bytes handles : List ℕ) → (r : Read) → read_by moment.bound.birth.protocol bytes handles ≡ r →
     IsOutcome moment.room.token moment.tree moment.bound (message bytes handles) (outcome_of_read moment r)

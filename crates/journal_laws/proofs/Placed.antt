@@ -247,16 +247,11 @@ module _ (context : Context) (kind : NodeKind) (children : HasChildren context.t
   row_placed : (request : Asked) → has_method context.birth.protocol (method_of request) ≡ true → is_beyond context.birth.protocol (method_of request) ≡ false → IsPlaced context.tree context.birth (row_act context request)
   row_placed (asks.clone endpoint) has beyond =
       unless_holds (IsPlaced context.tree context.birth) (first_of (cause_if (is_full context.room) status.NoResources ∷ [])) context.position method.Clone _ (refused_placed context.tree context.birth context.position method.Clone) (λ e. record { orderly = tt; answer = (kind, at, suited') })
-  row_placed asks.close has beyond = record { orderly = tt; answer = tt }
-  row_placed asks.query has beyond = record { orderly = tt; answer = tt }
-  row_placed (asks.get_attributes bits) has beyond = record { orderly = tt; answer = tt }
-  row_placed asks.sync has beyond = record { orderly = tt; answer = tt }
   row_placed (asks.open_path path flags given object) has beyond =
       unless_holds (IsPlaced context.tree context.birth) (first_of (entry_refusals context.birth flags path)) context.position method.OpenPath _ (refused_placed context.tree context.birth context.position method.OpenPath)
       (λ e. walk_placed context flags (walk context.tree flags (names_of path) context.birth.node) (leads_to_node context.tree flags (names_of path) context.birth.node children (kind, at)))
   row_placed (asks.read_dirents most) has beyond =
       unless_holds (IsPlaced context.tree context.birth) (first_of (cause_if (is_too_much most) status.InvalidArgs ∷ cause_if (fits_none (listing context.tree context.birth.node context.position.place) most) status.BufferTooSmall ∷ [])) context.position method.ReadDirents _ (refused_placed context.tree context.birth context.position method.ReadDirents) (λ e. record { orderly = tt; answer = tt })
-  row_placed asks.rewind has beyond = record { orderly = tt; answer = tt }
   row_placed asks.get_token has beyond = token_placed (on_directory context.tree context.birth kind method.GetToken at suited' refl has beyond) context.room.token
   row_placed (asks.rename src token dst) has beyond =
       unless_holds (IsPlaced context.tree context.birth) (two_names_refusal src dst (context.directory token)) context.position method.Rename _ (refused_placed context.tree context.birth context.position method.Rename) (λ e. rename_placed context src dst (context.directory token))
@@ -279,7 +274,7 @@ module _ (context : Context) (kind : NodeKind) (children : HasChildren context.t
       unless_holds (IsPlaced context.tree context.birth) (first_of (cause_if (nat_lt 2 origin) status.InvalidArgs ∷ cause_if (is_no_position (seek_sum context origin offset)) status.OutOfRange ∷ [])) context.position method.Seek _ (refused_placed context.tree context.birth context.position method.Seek) (λ e. record { orderly = tt; answer = tt })
   row_placed (asks.resize size) has beyond =
       unless_holds (IsPlaced context.tree context.birth) (as_status (resize_refusal size)) context.position method.Resize _ (refused_placed context.tree context.birth context.position method.Resize) (λ e. record { orderly = tt; answer = tt })
-  row_placed (asks.echo_string value) has beyond = record { orderly = tt; answer = tt }
+  row_placed _ has beyond = record { orderly = tt; answer = tt }
 
   act_placed : (request : Asked) → has_method context.birth.protocol (method_of request) ≡ true → IsPlaced context.tree context.birth (act_of context request)
   unfolding act_of

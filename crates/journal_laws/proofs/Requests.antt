@@ -69,25 +69,7 @@ carries law p bytes handles t a read = by_form a (carries_handle p bytes (map ha
 
 pub same_open : (m : Method) (items : List Item) (path : List ℕ) (flags : ℕ) (attributes : Option ℕ) (object : ℕ) → asked_from m items ≡ asks.open_path path flags attributes object → m ≡ method.OpenPath
 same_open method.OpenPath items path flags attributes object e = refl
-same_open method.Clone items path flags attributes object e = absurd (cc)
-same_open method.Close items path flags attributes object e = absurd (cc)
-same_open method.Query items path flags attributes object e = absurd (cc)
-same_open method.GetAttributes items path flags attributes object e = absurd (cc)
-same_open method.Sync items path flags attributes object e = absurd (cc)
-same_open method.ReadDirents items path flags attributes object e = absurd (cc)
-same_open method.Rewind items path flags attributes object e = absurd (cc)
-same_open method.GetToken items path flags attributes object e = absurd (cc)
-same_open method.Rename items path flags attributes object e = absurd (cc)
-same_open method.Link items path flags attributes object e = absurd (cc)
-same_open method.Unlink items path flags attributes object e = absurd (cc)
-same_open method.Watch items path flags attributes object e = absurd (cc)
-same_open method.Read items path flags attributes object e = absurd (cc)
-same_open method.ReadAt items path flags attributes object e = absurd (cc)
-same_open method.Write items path flags attributes object e = absurd (cc)
-same_open method.WriteAt items path flags attributes object e = absurd (cc)
-same_open method.Seek items path flags attributes object e = absurd (cc)
-same_open method.Resize items path flags attributes object e = absurd (cc)
-same_open method.EchoString items path flags attributes object e = absurd (cc)
+same_open _ items path flags attributes object e = absurd (cc)
 
 pub opens_directory : SpelledWhereRead → ReadsWhatIsSpelled → AreDistinct → (p : Protocol) (bytes handles : List ℕ) (t : ℕ) (path : List ℕ) (flags : ℕ) (attributes : Option ℕ) (object : ℕ) →
     read_by p bytes handles ≡ Ok (t, asks.open_path path flags attributes object) → read_by protocol.Directory bytes handles ≡ Ok (t, asks.open_path path flags attributes object)

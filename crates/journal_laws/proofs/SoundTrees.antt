@@ -195,10 +195,6 @@ module _ (below : Below) (context : Context) (kind : NodeKind) (sound : IsSound 
 
   row_sound : (request : Asked) → has_method context.birth.protocol (method_of request) ≡ true → is_beyond context.birth.protocol (method_of request) ≡ false → IsLeftSound context.tree (row_act context request)
   row_sound (asks.clone endpoint) has' beyond = unless_holds (IsLeftSound context.tree) (first_of (cause_if (is_full context.room) status.NoResources ∷ [])) context.position method.Clone _ (λ s. sound) (λ e. sound)
-  row_sound asks.close has' beyond = sound
-  row_sound asks.query has' beyond = sound
-  row_sound (asks.get_attributes bits) has' beyond = sound
-  row_sound asks.sync has' beyond = sound
   row_sound (asks.open_path path flags given object) has' beyond =
       unless_holds (IsLeftSound context.tree) (first_of (entry_refusals context.birth flags path)) context.position method.OpenPath _ (λ s. sound)
       (λ e.
@@ -208,8 +204,6 @@ module _ (below : Below) (context : Context) (kind : NodeKind) (sound : IsSound 
       (leads_to_node context.tree flags (names_of path) context.birth.node (sound_children context.tree sound) (Directory, here)) (misses_name context.tree flags (names_of path) context.birth.node (sound_children context.tree sound) here valid))
   row_sound (asks.read_dirents most) has' beyond =
       unless_holds (IsLeftSound context.tree) (first_of (cause_if (is_too_much most) status.InvalidArgs ∷ cause_if (fits_none (listing context.tree context.birth.node context.position.place) most) status.BufferTooSmall ∷ [])) context.position method.ReadDirents _ (λ s. sound) (λ e. sound)
-  row_sound asks.rewind has' beyond = sound
-  row_sound asks.get_token has' beyond = sound
   row_sound (asks.rename src token dst) has' beyond =
       unless_holds (IsLeftSound context.tree) (two_names_refusal src dst (context.directory token)) context.position method.Rename _ (λ s. sound)
       (λ e. renamed_sound context src dst sound (second_name src dst (context.directory token) e) (context.directory token) (target_is token))
@@ -233,7 +227,7 @@ module _ (below : Below) (context : Context) (kind : NodeKind) (sound : IsSound 
   row_sound (asks.resize size) has' beyond =
       unless_holds (IsLeftSound context.tree) (as_status (resize_refusal size)) context.position method.Resize _ (λ s. sound)
       (λ e. resized_sound context.tree context.birth.node (bytes_of context.tree context.birth.node) size sound (file_row context.tree context.birth.node (on_file method.Resize refl has' beyond)) (graph_allows (resize_refusal size) e))
-  row_sound (asks.echo_string value) has' beyond = sound
+  row_sound _ has' beyond = sound
 
   act_sound : (request : Asked) → has_method context.birth.protocol (method_of request) ≡ true → IsLeftSound context.tree (act_of context request)
   unfolding act_of

@@ -37,25 +37,7 @@ heavy one = weight_of one.sending
 -- nothing weighs nothing
 read_weighs : (r : Read) → 0 < weight_of_read r
 read_weighs (Ok (txid, asks.open_path path flags attributes object)) = omega arith
-read_weighs (Ok (txid, asks.clone endpoint)) = omega arith
-read_weighs (Ok (txid, asks.close)) = omega arith
-read_weighs (Ok (txid, asks.query)) = omega arith
-read_weighs (Ok (txid, asks.get_attributes bits)) = omega arith
-read_weighs (Ok (txid, asks.sync)) = omega arith
-read_weighs (Ok (txid, asks.read_dirents most)) = omega arith
-read_weighs (Ok (txid, asks.rewind)) = omega arith
-read_weighs (Ok (txid, asks.get_token)) = omega arith
-read_weighs (Ok (txid, asks.rename src token dst)) = omega arith
-read_weighs (Ok (txid, asks.link src token dst)) = omega arith
-read_weighs (Ok (txid, asks.unlink name flags)) = omega arith
-read_weighs (Ok (txid, asks.watch mask options watcher)) = omega arith
-read_weighs (Ok (txid, asks.read count)) = omega arith
-read_weighs (Ok (txid, asks.read_at count offset)) = omega arith
-read_weighs (Ok (txid, asks.write bytes)) = omega arith
-read_weighs (Ok (txid, asks.write_at bytes offset)) = omega arith
-read_weighs (Ok (txid, asks.seek origin offset)) = omega arith
-read_weighs (Ok (txid, asks.resize size)) = omega arith
-read_weighs (Ok (txid, asks.echo_string value)) = omega arith
+read_weighs (Ok (txid, _)) = omega arith
 read_weighs (Err fault) = omega arith
 
 weighs : (sending : Sending) → 0 < weight_of sending
