@@ -226,9 +226,6 @@ module _ (sound : (text : List ℕ) → path_fault text ≡ None → IsPath text
   rows (asks.clone endpoint) plain =
       unless_holds (IsToldWhole context.tree) (first_of (cause_if (is_full context.room) status.NoResources ∷ [])) context.position method.Clone _ (refused method.Clone) (λ e. nothing context.tree context.position _ plain)
   rows asks.close plain = nothing context.tree context.position closes tt
-  rows asks.query plain = nothing context.tree context.position _ tt
-  rows (asks.get_attributes bits) plain = nothing context.tree context.position _ tt
-  rows asks.sync plain = nothing context.tree context.position _ tt
   rows (asks.open_path path flags attributes object) plain =
       unless_holds (IsToldWhole context.tree) (first_of (entry_refusals context.birth flags path)) context.position method.OpenPath _ (refused method.OpenPath)
       (λ e. walked context flags (walk context.tree flags (names_of path) context.birth.node)
@@ -260,7 +257,7 @@ module _ (sound : (text : List ℕ) → path_fault text ≡ None → IsPath text
       (λ e. nothing context.tree _ _ tt)
   rows (asks.resize size) plain =
       unless_holds (IsToldWhole context.tree) (as_status (resize_refusal size)) context.position method.Resize _ (refused method.Resize) (λ e. quiet context.tree _ refl (λ key. refl) tt)
-  rows (asks.echo_string value) plain = nothing context.tree context.position _ tt
+  rows _ plain = nothing context.tree context.position _ tt
 
   pub acts : (request : Asked) → is_watcher context.birth.protocol ≡ false → IsToldWhole context.tree (act_of context request)
   unfolding act_of

@@ -285,24 +285,10 @@ IsInWay false answer = IsTwoWay answer
 in_way : (room : Room) (tree : Tree) (request : Asked) (answer : Answer) → IsAnswer room tree request answer → IsInWay (is_one_way (method_of request)) answer
 in_way room tree (asks.clone endpoint) answer is = clone_one_way answer is
 in_way room tree asks.close answer is = close_two_way answer is
-in_way room tree asks.query answer is = reply_two_way answer is
-in_way room tree (asks.get_attributes bits) answer is = reply_two_way answer is
-in_way room tree asks.sync answer is = reply_two_way answer is
 in_way room tree (asks.open_path path flags given object) answer is = open_one_way tree path flags answer is
-in_way room tree (asks.read_dirents most) answer is = reply_two_way answer is
-in_way room tree asks.rewind answer is = reply_two_way answer is
 in_way room tree asks.get_token answer is = token_two_way room.token answer is
-in_way room tree (asks.rename src token dst) answer is = reply_two_way answer is
-in_way room tree (asks.link src token dst) answer is = reply_two_way answer is
-in_way room tree (asks.unlink name flags) answer is = reply_two_way answer is
 in_way room tree (asks.watch mask options watcher) answer is = watch_two_way answer is
-in_way room tree (asks.read count) answer is = reply_two_way answer is
-in_way room tree (asks.read_at count offset) answer is = reply_two_way answer is
-in_way room tree (asks.write bytes) answer is = reply_two_way answer is
-in_way room tree (asks.write_at bytes offset) answer is = reply_two_way answer is
-in_way room tree (asks.seek origin offset) answer is = reply_two_way answer is
-in_way room tree (asks.resize size) answer is = reply_two_way answer is
-in_way room tree (asks.echo_string value) answer is = reply_two_way answer is
+in_way room tree _ answer is = reply_two_way answer is
 
 not_zero : (zero : Bool) → not zero ≡ true → zero ≡ false
 not_zero true e = absurd (cc)

@@ -261,15 +261,9 @@ module _ (start : Start) (past : History) (moment : Moment) (sent : Sent) (withi
       (λ h t. (own_has op.ModifyDirectory h, tokens token t.0 t.1))
   request_allowed (asks.clone endpoint) over tokens owns =
       inl (stays (context_at moment) (asks.clone endpoint) (unless_holds Stays (first_of (cause_if (is_full moment.room) status.NoResources ∷ [])) moment.position method.Clone _ (λ s. refl) (λ e. refl)))
-  request_allowed asks.close over tokens owns = inl (stays (context_at moment) asks.close refl)
-  request_allowed asks.query over tokens owns = inl (stays (context_at moment) asks.query refl)
-  request_allowed (asks.get_attributes bits) over tokens owns = inl (stays (context_at moment) (asks.get_attributes bits) refl)
-  request_allowed asks.sync over tokens owns = inl (stays (context_at moment) asks.sync refl)
   request_allowed (asks.read_dirents most) over tokens owns =
       inl (stays (context_at moment) (asks.read_dirents most)
       (unless_holds Stays (first_of (cause_if (is_too_much most) status.InvalidArgs ∷ cause_if (fits_none (listing moment.tree moment.bound.birth.node moment.position.place) most) status.BufferTooSmall ∷ [])) moment.position method.ReadDirents _ (λ s. refl) (λ e. refl)))
-  request_allowed asks.rewind over tokens owns = inl (stays (context_at moment) asks.rewind refl)
-  request_allowed asks.get_token over tokens owns = inl (stays (context_at moment) asks.get_token refl)
   request_allowed (asks.watch mask options watcher) over tokens owns =
       inl (stays (context_at moment) (asks.watch mask options watcher) (unless_holds Stays (first_of (watch_refusals moment.room mask options)) moment.position method.Watch _ (λ s. refl) (λ e. refl)))
   request_allowed (asks.read count) over tokens owns = inl (stays (context_at moment) (asks.read count) (unless_holds Stays (reading_refusal count) moment.position method.Read _ (λ s. refl) (λ e. refl)))
@@ -277,4 +271,4 @@ module _ (start : Start) (past : History) (moment : Moment) (sent : Sent) (withi
   request_allowed (asks.seek origin offset) over tokens owns =
       inl (stays (context_at moment) (asks.seek origin offset)
       (unless_holds Stays (first_of (cause_if (nat_lt 2 origin) status.InvalidArgs ∷ cause_if (is_no_position (seek_sum (context_at moment) origin offset)) status.OutOfRange ∷ [])) moment.position method.Seek _ (λ s. refl) (λ e. refl)))
-  request_allowed (asks.echo_string value) over tokens owns = inl (stays (context_at moment) (asks.echo_string value) refl)
+  request_allowed request over tokens owns = inl (stays (context_at moment) request refl)
