@@ -233,10 +233,6 @@ row_acts : (birth : Birth) (position : Position) (room : Room) (tree : Tree) (di
 row_acts birth position room tree directory (asks.clone endpoint) here known mine =
     unless_acts birth.protocol room tree (first_of (cause_if (is_full room) status.NoResources ∷ [])) position method.Clone (only position (binds birth false))
     (λ none. record { answer = has_room room (cause_if (is_full room) status.NoResources ∷ []) refl none; told = All-nil IsShort })
-row_acts birth position room tree directory asks.close here known mine = record { answer = tt; told = All-nil IsShort }
-row_acts birth position room tree directory asks.query here known mine = record { answer = tt; told = All-nil IsShort }
-row_acts birth position room tree directory (asks.get_attributes bits) here known mine = record { answer = tt; told = All-nil IsShort }
-row_acts birth position room tree directory asks.sync here known mine = record { answer = tt; told = All-nil IsShort }
 row_acts birth position room tree directory (asks.open_path path flags options object) here known mine = open_acts birth position room tree directory path flags here
 row_acts birth position room tree directory (asks.read_dirents most) here known mine =
     unless_acts birth.protocol room tree
@@ -245,7 +241,6 @@ row_acts birth position room tree directory (asks.read_dirents most) here known 
     ∷ cause_if (fits_none (listing_here (context_with birth position room tree directory)) most) status.BufferTooSmall
     ∷ []))
     position method.ReadDirents _ (λ none. record { answer = tt; told = All-nil IsShort })
-row_acts birth position room tree directory asks.rewind here known mine = record { answer = tt; told = All-nil IsShort }
 row_acts birth position room tree directory asks.get_token here known mine = token_acts birth.protocol room tree position (directory_protocol method.GetToken refl birth.protocol known mine)
 row_acts birth position room tree directory (asks.rename src number dst) here known mine =
     unless_acts birth.protocol room tree (two_names_refusal src dst (directory number)) position method.Rename
@@ -275,7 +270,7 @@ row_acts birth position room tree directory (asks.seek origin offset) here known
     position method.Seek _ (λ none. record { answer = tt; told = All-nil IsShort })
 row_acts birth position room tree directory (asks.resize size) here known mine =
     unless_acts birth.protocol room tree (as_status (resize_refusal size)) position method.Resize _ (λ none. record { answer = tt; told = All-nil IsShort })
-row_acts birth position room tree directory (asks.echo_string value) here known mine = record { answer = tt; told = All-nil IsShort }
+row_acts birth position room tree directory _ here known mine = record { answer = tt; told = All-nil IsShort }
 
 act_acts : (birth : Birth) (position : Position) (room : Room) (tree : Tree) (directory : ℕ → Option ℕ) (request : Asked) →
     IsNoMount tree birth.node → has_method birth.protocol (method_of request) ≡ true → CanAct birth.protocol room tree (act_of (context_with birth position room tree directory) request)

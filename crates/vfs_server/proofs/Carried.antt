@@ -98,26 +98,9 @@ token_between cells items bytes handles spelled at =
 module _ (bytes : List ℕ) (handles : List Handle) (one other : ℕ → Option ℕ) (alike : (number : ℕ) → among number (numbers_of handles) ≡ true → one number ≡ other number) where
   alike_by : (m : Method) (items : List Item) → IsSpelled (struct (request_cells m)) (fields items) bytes handles →
       directory_named one (asked_from m items) ≡ directory_named other (asked_from m items)
-  alike_by method.Clone items h = refl
-  alike_by method.Close items h = refl
-  alike_by method.Query items h = refl
-  alike_by method.GetAttributes items h = refl
-  alike_by method.Sync items h = refl
-  alike_by method.OpenPath items h = refl
-  alike_by method.ReadDirents items h = refl
-  alike_by method.Rewind items h = refl
-  alike_by method.GetToken items h = refl
   alike_by method.Rename items h = alike (handle_in 1 items) (token_between (request_cells method.Rename) items bytes handles h refl)
   alike_by method.Link items h = alike (handle_in 1 items) (token_between (request_cells method.Link) items bytes handles h refl)
-  alike_by method.Unlink items h = refl
-  alike_by method.Watch items h = refl
-  alike_by method.Read items h = refl
-  alike_by method.ReadAt items h = refl
-  alike_by method.Write items h = refl
-  alike_by method.WriteAt items h = refl
-  alike_by method.Seek items h = refl
-  alike_by method.Resize items h = refl
-  alike_by method.EchoString items h = refl
+  alike_by _ items h = refl
 
   -- where handles name alike, a request that came with them does
   named_alike : (p : Protocol) (txid : ℕ) (a : Asked) → Reads p bytes handles txid a → directory_named one a ≡ directory_named other a

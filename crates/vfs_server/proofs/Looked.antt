@@ -25,27 +25,9 @@ module _ (birth : Birth) (position : Position) (room : Room) (tree : Tree) (dire
   walk_alike word (stops status) = refl
 
   row_alike : (request : Asked) → row_act (context_with birth position (looked_at request room) tree directory) request ≡ row_act (context_with birth position room tree directory) request
-  row_alike (asks.clone endpoint) = refl
-  row_alike asks.close = refl
-  row_alike asks.query = refl
-  row_alike (asks.get_attributes bits) = refl
-  row_alike asks.sync = refl
   row_alike (asks.open_path path flags attributes object) =
       ap (unless (first_of (entry_refusals birth flags path)) position method.OpenPath) (walk_alike flags (walk tree flags (names_of path) birth.node))
-  row_alike (asks.read_dirents most) = refl
-  row_alike asks.rewind = refl
-  row_alike asks.get_token = refl
-  row_alike (asks.rename src token dst) = refl
-  row_alike (asks.link src token dst) = refl
-  row_alike (asks.unlink name flags) = refl
-  row_alike (asks.watch mask options watcher) = refl
-  row_alike (asks.read count) = refl
-  row_alike (asks.read_at count offset) = refl
-  row_alike (asks.write bytes) = refl
-  row_alike (asks.write_at bytes offset) = refl
-  row_alike (asks.seek origin offset) = refl
-  row_alike (asks.resize size) = refl
-  row_alike (asks.echo_string value) = refl
+  row_alike _ = refl
 
 pub act_alike : (connection : Connection) (room : Room) (tree : Tree) (directory : ℕ → Option ℕ) (request : Asked) →
     act_of (context_of connection (looked_at request room) tree directory) request ≡ act_of (context_of connection room tree directory) request

@@ -95,15 +95,10 @@ none_taken act h is = refuted (is_taking act.answer) h.quiet is
 
 row_taken : (context : Context) (request : Asked) → is_taking (row_act context request).answer ≡ true → HasObject request
 row_taken context (asks.clone endpoint) is = tt
-row_taken context asks.close is = refuted false refl is
-row_taken context asks.query is = refuted false refl is
-row_taken context (asks.get_attributes bits) is = refuted false refl is
-row_taken context asks.sync is = refuted false refl is
 row_taken context (asks.open_path path flags attributes object) is = tt
 row_taken context (asks.read_dirents most) is =
     none_taken (row_act context (asks.read_dirents most))
     (unless_quiet (first_of (cause_if (is_too_much most) status.InvalidArgs ∷ cause_if (fits_none (listing_here context) most) status.BufferTooSmall ∷ [])) context.position method.ReadDirents _ (record { quiet = refl })) is
-row_taken context asks.rewind is = refuted false refl is
 row_taken context asks.get_token is = refuted (is_taking (token_answer context.room.token)) (token_quiet context.room.token) is
 row_taken context (asks.rename src token dst) is =
     none_taken (row_act context (asks.rename src token dst))
@@ -128,7 +123,7 @@ row_taken context (asks.seek origin offset) is =
     (unless_quiet (first_of (cause_if (nat_lt 2 origin) status.InvalidArgs ∷ cause_if (is_no_position (seek_sum context origin offset)) status.OutOfRange ∷ [])) context.position method.Seek _ (record { quiet = refl })) is
 row_taken context (asks.resize size) is =
     none_taken (row_act context (asks.resize size)) (unless_quiet (as_status (resize_refusal size)) context.position method.Resize _ (record { quiet = refl })) is
-row_taken context (asks.echo_string value) is = refuted false refl is
+row_taken context _ is = refuted false refl is
 
 behind_refusal : (o : Option Status) (position : Position) (m : Method) (act : Act) → is_taking (unless o position m act).answer ≡ true → is_taking act.answer ≡ true
 behind_refusal (Some status) position m act is = refuted (is_taking (failure_of m status)) (failing_quiet (failing_of m) m status) is
@@ -143,25 +138,9 @@ act_taken context request is =
 
 carried : (request : Asked) (handles : List Handle) → HasObject request → Carries request handles → Contains handles (Endpoint (object_of request))
 carried (asks.clone endpoint) handles has carries = carries
-carried asks.close handles has carries = absurd has
-carried asks.query handles has carries = absurd has
-carried (asks.get_attributes bits) handles has carries = absurd has
-carried asks.sync handles has carries = absurd has
 carried (asks.open_path path flags attributes object) handles has carries = carries
-carried (asks.read_dirents most) handles has carries = absurd has
-carried asks.rewind handles has carries = absurd has
-carried asks.get_token handles has carries = absurd has
-carried (asks.rename src token dst) handles has carries = absurd has
-carried (asks.link src token dst) handles has carries = absurd has
-carried (asks.unlink name flags) handles has carries = absurd has
 carried (asks.watch mask options watcher) handles has carries = carries
-carried (asks.read count) handles has carries = absurd has
-carried (asks.read_at count offset) handles has carries = absurd has
-carried (asks.write bytes) handles has carries = absurd has
-carried (asks.write_at bytes offset) handles has carries = absurd has
-carried (asks.seek origin offset) handles has carries = absurd has
-carried (asks.resize size) handles has carries = absurd has
-carried (asks.echo_string value) handles has carries = absurd has
+carried _ handles has carries = absurd has
 
 -- the endpoint of a request by which one is bound came with its message
 pub taken_came : (context : Context) (request : Asked) (handles : List Handle) → is_taking (act_of context request).answer ≡ true → Carries request handles → Contains handles (Endpoint (object_of request))
