@@ -8,5 +8,5 @@ mod records;
 mod verdicts;
 
 pub use auditing::{MAX_RECORDING, audit};
-pub use laws::one_verdict;
+pub use laws::{limit_has_its_number, one_verdict};
 pub use verdicts::{Verdict, Why};
