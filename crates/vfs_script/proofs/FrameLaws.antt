@@ -1,6 +1,6 @@
 -- What a script stands for are frames that may go to the servers.
 use Rattle.std.proofs.Common.{◌≡◌, ℕ, ◌<◌, ◌≤◌, ◌^◌, Bool, true, false, not, cond, List, [], ◌∷◌, ◌++◌, length, map, Option, Some, None, refl, ap, subst, lit≤}
-use Rattle.std.specs.Prelude.{IfSome, All, IsTrue, nat_lt, nat_le, filter, filter_map}
+use Rattle.std.specs.Prelude.{⊤, IfSome, All, IsTrue, nat_lt, nat_le, filter, filter_map}
 use Rattle.std.specs.List.{cons_option, flat_map}
 use Rattle.std.specs.Str.{bytes_eq, is_utf8}
 use Rattle.std.proofs.Math.Seq.{drop-append_seam, take-append_seam}
@@ -25,9 +25,9 @@ use Rattle.io_messages.specs.Requests.{flags_member, request_cells}
 use Rattle.io_messages.specs.Writing.{request_handles}
 use Rattle.vfs_script.specs.declared.verbs.Verb.{Verb}
 use Rattle.vfs_script.specs.declared.verbs.Verb.TheVariants as verb
-use Rattle.vfs_script.specs.Lines.{Line, request, raw, hang_up, turn, pick, one, two, three, four, plain_form, short_form, long_form, open_form, names_form, unlink_form, watch_form, read_at_form, write_form, write_at_form, echo_form, seek_form, hang_up_form, turn_form, pick_form, raw_form, form_of, line_in, line_of, verb_of, frame_at, fits_at}
+use Rattle.vfs_script.specs.Lines.{Field, Name, Short, Long, Signed, Bytes, Text, Handles, Line, Says, Value, request, raw, hang_up, turn, pick, behind, form_of, line_in, line_of, line_with, said_by, value_of, verb_of, frame_at, fits_at}
 use Rattle.vfs_script.specs.Scripts.{Numbered, Spoken, behind_mode, frame_of, frames_of, is_skipped, lines_of, said_at, script_lines, spoken}
-use Rattle.vfs_script.specs.Words.{◌>>=◌, given, all_given, bytes_of, comma, handles_of, none_word, number_in, number_of, numbers_of, signed_of, space}
+use Rattle.vfs_script.specs.Words.{◌>>=◌, given, all_given, bytes_of, comma, handles_of, none_word, number_in, number_of, numbers_of, signed_of, space, text_of}
 use Rattle.text_pieces.specs.Pieces.{pieces}
 
 -- ---- words
@@ -110,25 +110,49 @@ no_handles = record { words = no_words; few = lit≤ tt }
 one_handle : (n : ℕ) → n < 2 ^ 32 → AreHandles (n ∷ [])
 one_handle n low = record { words = one_word n low; few = lit≤ tt }
 
-plain_sound : (a : Asked) → AreHandles (map number_of_handle (request_handles a)) → (e : List ℕ) → AllSound (plain_form a e)
-plain_sound a none e = bind IsSound (number_in 32 e) _ (λ n is. (fits_field 32 e n is, none))
+-- ---- values
 
-short_sound : (asking : ℕ → Asked) → ((n : ℕ) → n < 2 ^ 32 → AreHandles (map number_of_handle (request_handles (asking n)))) → (e n : List ℕ) → AllSound (short_form asking e n)
-short_sound asking has e n =
-    bind IsSound (number_in 32 e) _ (λ endpoint is. bind IsSound (number_in 32 n) _ (λ number low. (fits_field 32 e endpoint is, has number (fits_field 32 n number low))))
+if_found : {A : Type 0} (P : A → Type 0) (found : Option A) → ((a : A) → found ≡ Some a → P a) → IfSome found P
+if_found P None each = tt
+if_found P (Some a) each = each a refl
 
-long_sound : (asking : ℕ → Asked) → ((n : ℕ) → AreHandles (map number_of_handle (request_handles (asking n)))) → (e n : List ℕ) → AllSound (long_form asking e n)
-long_sound asking has e n =
-    bind IsSound (number_in 32 e) _ (λ endpoint is. bind IsSound (number_in 64 n) _ (λ number low. (fits_field 32 e endpoint is, has number)))
+any_found : {A : Type 0} (found : Option A) → IfSome found (λ a. ⊤)
+any_found None = tt
+any_found (Some a) = tt
 
-open_sound : (e path f n : List ℕ) → AllSound (open_form e path f n)
-open_sound e path f n =
-    bind IsSound (number_in 32 e) _ (λ endpoint is. bind IsSound (number_in 64 f) _ (λ flags any. bind IsSound (number_in 32 n) _ (λ object low. (fits_field 32 e endpoint is, one_handle object (fits_field 32 n object low)))))
+-- a number of 32 bits is one, and handles are handles; the others may be any
+abbrev Fits : (field : Field) → Value field → Type 0
+Fits Short n = n < 2 ^ 32
+Fits Handles handles = AreHandles handles
+Fits Name name = ⊤
+Fits Long n = ⊤
+Fits Signed n = ⊤
+Fits Bytes bytes = ⊤
+Fits Text text = ⊤
 
-names_sound : (asking : List ℕ → ℕ → List ℕ → Asked) → ((src : List ℕ) (n : ℕ) (dst : List ℕ) → n < 2 ^ 32 → AreHandles (map number_of_handle (request_handles (asking src n dst)))) →
-    (e src t dst : List ℕ) → AllSound (names_form asking e src t dst)
-names_sound asking has e src t dst =
-    bind IsSound (number_in 32 e) _ (λ endpoint is. bind IsSound (number_in 32 t) _ (λ token low. (fits_field 32 e endpoint is, has src token dst (fits_field 32 t token low))))
+value_fits : (field : Field) (word : List ℕ) → IfSome (value_of field word) (Fits field)
+value_fits Name word = tt
+value_fits Short word = if_found (λ n. n < 2 ^ 32) (number_in 32 word) (fits_field 32 word)
+value_fits Long word = any_found (number_in 64 word)
+value_fits Signed word = any_found (signed_of word)
+value_fits Bytes word = any_found (bytes_of word)
+value_fits Text word = any_found (text_of word)
+value_fits Handles word = handles_are word
+
+-- ---- forms
+
+-- what is said is sound, whatever the values are that words have
+abbrev AreSound : (fields : List Field) → Says fields → Type 0
+AreSound [] line = IsSound line
+AreSound (field ∷ fields) says = (value : Value field) → Fits field value → AreSound fields (says value)
+
+said_sound : (fields : List Field) (says : Says fields) → AreSound fields says → (words : List (List ℕ)) → AllSound (said_by fields says words)
+said_sound [] line sound [] = sound
+said_sound [] line sound (word ∷ words) = tt
+said_sound (field ∷ fields) says sound [] = tt
+said_sound (field ∷ fields) says sound (word ∷ words) =
+    bind IsSound (value_of field word) (λ value. said_by fields (says value) words)
+    (λ value is. said_sound fields (says value) (sound value (subst (λ (o : Option (Value field)). IfSome o (Fits field)) is (value_fits field word))) words)
 
 -- the flags of an Unlink carry none
 flags_alone : (name : List ℕ) (flags : Option ℕ) → AreHandles (map number_of_handle ((spelling_of_all (request_cells method.Unlink) (seq name ∷ members (numbers (flags ∷ [])) ∷ [])).handles))
@@ -138,106 +162,41 @@ flags_alone name (Some flags) = no_handles
 unlink_handles : (name : List ℕ) (flags : ℕ) → AreHandles (map number_of_handle (request_handles (asks.unlink name flags)))
 unlink_handles name flags = flags_alone name (flags_member flags)
 
-unlink_sound : (e name f : List ℕ) → AllSound (unlink_form e name f)
-unlink_sound e name f =
-    bind IsSound (number_in 32 e) _ (λ endpoint is. bind IsSound (number_in 64 f) _ (λ flags any. (fits_field 32 e endpoint is, unlink_handles name flags)))
+form_sound : (v : Verb) (e : ℕ) → e < 2 ^ 32 → AreSound ((form_of v).fields) ((form_of v).says e)
+form_sound verb.Open e low = λ path p flags f object fits. (low, one_handle object fits)
+form_sound verb.Clone e low = λ object fits. (low, one_handle object fits)
+form_sound verb.Close e low = (low, no_handles)
+form_sound verb.Query e low = (low, no_handles)
+form_sound verb.Sync e low = (low, no_handles)
+form_sound verb.Rewind e low = (low, no_handles)
+form_sound verb.Token e low = (low, no_handles)
+form_sound verb.Attributes e low = λ bits any. (low, no_handles)
+form_sound verb.List e low = λ most any. (low, no_handles)
+form_sound verb.Rename e low = λ src s token fits dst d. (low, one_handle token fits)
+form_sound verb.Link e low = λ src s token fits dst d. (low, one_handle token fits)
+form_sound verb.Unlink e low = λ name n flags f. (low, unlink_handles name flags)
+form_sound verb.Watch e low = λ mask m watcher fits. (low, one_handle watcher fits)
+form_sound verb.Read e low = λ count any. (low, no_handles)
+form_sound verb.ReadAt e low = λ count c offset o. (low, no_handles)
+form_sound verb.Write e low = λ bytes any. (low, no_handles)
+form_sound verb.WriteAt e low = λ bytes b offset o. (low, no_handles)
+form_sound verb.Seek e low = λ origin fits offset o. (low, no_handles)
+form_sound verb.Resize e low = λ size any. (low, no_handles)
+form_sound verb.Echo e low = λ text any. (low, no_handles)
+form_sound verb.HangUp e low = low
+form_sound verb.Turn e low = λ count any. low
+form_sound verb.Pick e low = low
+form_sound verb.Raw e low = λ handles are bytes any. (low, are)
 
-watch_sound : (e m n : List ℕ) → AllSound (watch_form e m n)
-watch_sound e m n =
-    bind IsSound (number_in 32 e) _ (λ endpoint is. bind IsSound (number_in 32 m) _ (λ mask any. bind IsSound (number_in 32 n) _ (λ watcher low. (fits_field 32 e endpoint is, one_handle watcher (fits_field 32 n watcher low)))))
-
-read_at_sound : (e n o : List ℕ) → AllSound (read_at_form e n o)
-read_at_sound e n o =
-    bind IsSound (number_in 32 e) _ (λ endpoint is. bind IsSound (number_in 64 n) _ (λ count any. bind IsSound (number_in 64 o) _ (λ offset other. (fits_field 32 e endpoint is, no_handles))))
-
-write_sound : (e hex : List ℕ) → AllSound (write_form e hex)
-write_sound e hex =
-    bind IsSound (number_in 32 e) _ (λ endpoint is. bind IsSound (bytes_of hex) _ (λ bytes any. (fits_field 32 e endpoint is, no_handles)))
-
-write_at_sound : (e hex o : List ℕ) → AllSound (write_at_form e hex o)
-write_at_sound e hex o =
-    bind IsSound (number_in 32 e) _ (λ endpoint is. bind IsSound (number_in 64 o) _ (λ offset any. bind IsSound (bytes_of hex) _ (λ bytes other. (fits_field 32 e endpoint is, no_handles))))
-
-given_sound : (test : Bool) (line : Line) → IsSound line → AllSound (given test line)
-given_sound true line sound = sound
-given_sound false line sound = tt
-
-echo_sound : (e hex : List ℕ) → AllSound (echo_form e hex)
-echo_sound e hex =
-    bind IsSound (number_in 32 e) _ (λ endpoint is. bind IsSound (bytes_of hex) _ (λ bytes any. given_sound (is_utf8 bytes) (request endpoint (asks.echo_string bytes)) (fits_field 32 e endpoint is, no_handles)))
-
-seek_sound : (e n o : List ℕ) → AllSound (seek_form e n o)
-seek_sound e n o =
-    bind IsSound (number_in 32 e) _ (λ endpoint is. bind IsSound (number_in 32 n) _ (λ origin any. bind IsSound (signed_of o) _ (λ offset other. (fits_field 32 e endpoint is, no_handles))))
-
-hang_up_sound : (e : List ℕ) → AllSound (hang_up_form e)
-hang_up_sound e = bind IsSound (number_in 32 e) _ (λ endpoint is. fits_field 32 e endpoint is)
-
-turn_sound : (s n : List ℕ) → AllSound (turn_form s n)
-turn_sound s n = bind IsSound (number_in 32 s) _ (λ server is. bind IsSound (number_in 32 n) _ (λ count any. fits_field 32 s server is))
-
-pick_sound : (e : List ℕ) → AllSound (pick_form e)
-pick_sound e = bind IsSound (number_in 32 e) _ (λ endpoint is. fits_field 32 e endpoint is)
-
-raw_sound : (e hs hex : List ℕ) → AllSound (raw_form e hs hex)
-raw_sound e hs hex =
-    bind IsSound (number_in 32 e) _ (λ endpoint is. bind IsSound (handles_of hs) _ (λ handles are. bind IsSound (bytes_of hex) _ (λ bytes any. (fits_field 32 e endpoint is, subst (λ (o : Option (List ℕ)). IfSome o AreHandles) are (handles_are hs)))))
-
-one_sound : (words : List (List ℕ)) (form : List ℕ → Option Line) → ((a : List ℕ) → AllSound (form a)) → AllSound (one words form)
-one_sound [] form h = tt
-one_sound (a ∷ []) form h = h a
-one_sound (a ∷ b ∷ words) form h = tt
-
-two_sound : (words : List (List ℕ)) (form : List ℕ → List ℕ → Option Line) → ((a b : List ℕ) → AllSound (form a b)) → AllSound (two words form)
-two_sound [] form h = tt
-two_sound (a ∷ []) form h = tt
-two_sound (a ∷ b ∷ []) form h = h a b
-two_sound (a ∷ b ∷ c ∷ words) form h = tt
-
-three_sound : (words : List (List ℕ)) (form : List ℕ → List ℕ → List ℕ → Option Line) → ((a b c : List ℕ) → AllSound (form a b c)) → AllSound (three words form)
-three_sound [] form h = tt
-three_sound (a ∷ []) form h = tt
-three_sound (a ∷ b ∷ []) form h = tt
-three_sound (a ∷ b ∷ c ∷ []) form h = h a b c
-three_sound (a ∷ b ∷ c ∷ d ∷ words) form h = tt
-
-four_sound : (words : List (List ℕ)) (form : List ℕ → List ℕ → List ℕ → List ℕ → Option Line) → ((a b c d : List ℕ) → AllSound (form a b c d)) → AllSound (four words form)
-four_sound [] form h = tt
-four_sound (a ∷ []) form h = tt
-four_sound (a ∷ b ∷ []) form h = tt
-four_sound (a ∷ b ∷ c ∷ []) form h = tt
-four_sound (a ∷ b ∷ c ∷ d ∷ []) form h = h a b c d
-four_sound (a ∷ b ∷ c ∷ d ∷ e ∷ words) form h = tt
-
-form_sound : (v : Verb) (fields : List (List ℕ)) → AllSound (form_of v fields)
-form_sound verb.Open fields = four_sound fields open_form open_sound
-form_sound verb.Clone fields = two_sound fields (short_form asks.clone) (short_sound asks.clone one_handle)
-form_sound verb.Close fields = one_sound fields (plain_form asks.close) (plain_sound asks.close no_handles)
-form_sound verb.Query fields = one_sound fields (plain_form asks.query) (plain_sound asks.query no_handles)
-form_sound verb.Sync fields = one_sound fields (plain_form asks.sync) (plain_sound asks.sync no_handles)
-form_sound verb.Rewind fields = one_sound fields (plain_form asks.rewind) (plain_sound asks.rewind no_handles)
-form_sound verb.Token fields = one_sound fields (plain_form asks.get_token) (plain_sound asks.get_token no_handles)
-form_sound verb.Attributes fields = two_sound fields (long_form asks.get_attributes) (long_sound asks.get_attributes (λ n. no_handles))
-form_sound verb.List fields = two_sound fields (long_form asks.read_dirents) (long_sound asks.read_dirents (λ n. no_handles))
-form_sound verb.Rename fields = four_sound fields (names_form asks.rename) (names_sound asks.rename (λ src n dst low. one_handle n low))
-form_sound verb.Link fields = four_sound fields (names_form asks.link) (names_sound asks.link (λ src n dst low. one_handle n low))
-form_sound verb.Unlink fields = three_sound fields unlink_form unlink_sound
-form_sound verb.Watch fields = three_sound fields watch_form watch_sound
-form_sound verb.Read fields = two_sound fields (long_form asks.read) (long_sound asks.read (λ n. no_handles))
-form_sound verb.ReadAt fields = three_sound fields read_at_form read_at_sound
-form_sound verb.Write fields = two_sound fields write_form write_sound
-form_sound verb.WriteAt fields = three_sound fields write_at_form write_at_sound
-form_sound verb.Seek fields = three_sound fields seek_form seek_sound
-form_sound verb.Resize fields = two_sound fields (long_form asks.resize) (long_sound asks.resize (λ n. no_handles))
-form_sound verb.Echo fields = two_sound fields echo_form echo_sound
-form_sound verb.HangUp fields = one_sound fields hang_up_form hang_up_sound
-form_sound verb.Turn fields = two_sound fields turn_form turn_sound
-form_sound verb.Pick fields = one_sound fields pick_form pick_sound
-form_sound verb.Raw fields = three_sound fields raw_form raw_sound
+with_sound : (v : Verb) (words : List (List ℕ)) → AllSound (line_with v words)
+with_sound v [] = tt
+with_sound v (e ∷ words) =
+    bind IsSound (number_in 32 e) (λ endpoint. behind v endpoint words)
+    (λ endpoint is. said_sound ((form_of v).fields) ((form_of v).says endpoint) (form_sound v endpoint (fits_field 32 e endpoint is)) words)
 
 words_sound : (words : List (List ℕ)) → AllSound (line_in words)
 words_sound [] = tt
-words_sound (first ∷ fields) = bind IsSound (verb_of first) (λ v. form_of v fields) (λ v is. form_sound v fields)
+words_sound (first ∷ words) = bind IsSound (verb_of first) (λ v. line_with v words) (λ v is. with_sound v words)
 
 line_sound : (text : List ℕ) → AllSound (line_of text)
 line_sound text = words_sound (pieces space text)
@@ -312,8 +271,8 @@ script_goes text = lines_go (filter (λ line. not (is_skipped line.bytes)) (behi
 
 -- ---- their bytes
 
-behind : (front back : List ℕ) → AreBytes (front ++ back) → AreBytes back
-behind front back are = subst AreBytes (drop-append_seam front back) (All-drop (λ byte. byte < 256) (length front) (front ++ back) are)
+back_bytes : (front back : List ℕ) → AreBytes (front ++ back) → AreBytes back
+back_bytes front back are = subst AreBytes (drop-append_seam front back) (All-drop (λ byte. byte < 256) (length front) (front ++ back) are)
 
 with_bytes : (f : Frame) → Goes f → AreBytes f.bytes → IsFrame side.ToServers f
 with_bytes f goes are = record { way = goes.way; shape = goes.shape; endpoint = goes.endpoint; handles = goes.handles; bytes = are }
@@ -322,13 +281,13 @@ front_bytes : (front back : List ℕ) → AreBytes (front ++ back) → AreBytes 
 front_bytes front back are = subst AreBytes (take-append_seam front back) (All-take (λ byte. byte < 256) (length front) (front ++ back) are)
 
 own_bytes : (f : Frame) → AreBytes (spelling f) → AreBytes f.bytes
-own_bytes f are = behind (fixed_part f.endpoint f.kind (length f.handles) (length f.bytes) ++ flat_map word_of f.handles) f.bytes are
+own_bytes f are = back_bytes (fixed_part f.endpoint f.kind (length f.handles) (length f.bytes) ++ flat_map word_of f.handles) f.bytes are
 
 all_frames : (frames : List Frame) → All Goes frames → AreBytes (spellings frames) → All (IsFrame side.ToServers) frames
 all_frames [] goes are = All-nil (IsFrame side.ToServers)
 all_frames (f ∷ frames) goes are =
     All-cons (IsFrame side.ToServers) f frames (with_bytes f (All-head Goes f frames goes) (own_bytes f (front_bytes (spelling f) (spellings frames) are)))
-    (all_frames frames (All-tail Goes f frames goes) (behind (spelling f) (spellings frames) are))
+    (all_frames frames (All-tail Goes f frames goes) (back_bytes (spelling f) (spellings frames) are))
 
 -- where all are bytes, what a script stands for are frames that may go to the servers
 pub frames_go : (text : List ℕ) → AreBytes (spellings (frames_of text)) → All (IsFrame side.ToServers) (frames_of text)

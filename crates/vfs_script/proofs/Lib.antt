@@ -1,7 +1,6 @@
 mod PieceLemmas
 mod NumberLemmas
-mod LineLemmas
-mod Behind
+mod FormLemmas
 mod ScriptLemmas
 mod PrintLemmas
 mod FrameLaws

@@ -1,4 +1,4 @@
--- That the pieces of a text are UTF-8 where it is, and numbers in front of pieces.
+-- That the pieces of a text are UTF-8 where it is.
 use Rattle.std.proofs.Common.{◌≡◌, ℕ, zero, suc, ◌+◌, ◌-◌, ◌<◌, ◌≤◌, ◌==◌, Bool, true, false, List, [], ◌∷◌, length, get_or, take, drop, Option, Some, None, sym, ap, ◌∙◌, subst, arith, inl, inr, cond}
 use Rattle.std.specs.List.{position_or_len}
 use Rattle.std.specs.Str.{IsUtf8}
@@ -8,11 +8,9 @@ use Rattle.std.proofs.lemmas.List.Elements.{All-from_get_or}
 use Rattle.std.proofs.lemmas.List.Splits.{slice_split_none, slice_split_first, length-slice_split}
 use Rattle.std.proofs.lemmas.List.Sums.{fails_before_first, passes_at_first}
 use Rattle.std.proofs.lemmas.Str.{IsUtf8-take, IsUtf8-drop, IsCharBoundary-before_ascii, IsCharBoundary-after_ascii}
-use Rattle.memchr.specs.Find.{IsFirstByte, is_byte}
-use Rattle.vfs_script.specs.Parsed.{AreTexts, first_in, piece_at}
-use Rattle.vfs_script.specs.Words.{number_in}
+use Rattle.vfs_script.specs.Parsed.{AreTexts}
 use Rattle.text_pieces.specs.Pieces.{pieces}
-use Rattle.text_pieces.proofs.PieceLemmas.{is_by, pieces_found, pieces_none}
+use Rattle.text_pieces.proofs.PieceLemmas.{is_by}
 
 -- a text without such a byte
 texts_none : (by : ℕ) (text : List ℕ) → IsUtf8 text → length text ≤ position_or_len (is_by by) text → AreTexts (pieces by text)
@@ -63,25 +61,7 @@ texts_up_to (suc size) by text low few utf8 =
 pub pieces_are_texts : (by : ℕ) (text : List ℕ) → by < 128 → IsUtf8 text → AreTexts (pieces by text)
 pieces_are_texts by text low utf8 = texts_up_to (length text) by text low (omega arith) utf8
 
--- there is a first piece
-pub pieces_some : (by : ℕ) (text : List ℕ) → (length (pieces by text) == 0) ≡ false
-pieces_some by text = ne_eqb (length (pieces by text)) 0 (λ none. omega (arith, none, length-slice_split (is_by by) text))
-
--- whether none is left
-pub none_left : (is_done : Bool) (by : ℕ) (rest : List ℕ) (now : List (List ℕ)) → cond is_done [] (pieces by rest) ≡ now → is_done ≡ (length now == 0)
-none_left true by rest now is = ap (λ (words : List (List ℕ)). length words == 0) is
-none_left false by rest now is = sym (pieces_some by rest) ∙ ap (λ (words : List (List ℕ)). length words == 0) is
-
--- a number in front is the first piece
-pub first_is : (bits by : ℕ) (text : List ℕ) (end : Option ℕ) → IsFirstByte (is_byte by) text end → first_in bits (pieces by text) ≡ number_in bits (piece_at text end)
-first_is bits by text None found = ap (first_in bits) (pieces_none by text found)
-first_is bits by text (Some end) found = ap (first_in bits) (pieces_found by text end found)
-
 -- the words behind the first one are texts
 pub texts_behind : (words : List (List ℕ)) (first : List ℕ) (others : List (List ℕ)) → words ≡ first ∷ others → AreTexts words → AreTexts others
 texts_behind [] first others e h = cc
 texts_behind (word ∷ words) first others e h = subst AreTexts (ap (drop 1) e) h.1
-
-pub texts_left : (words : List (List ℕ)) → AreTexts words → AreTexts (drop 1 words)
-texts_left [] h = tt
-texts_left (word ∷ words) h = h.1

@@ -1,7 +1,7 @@
 -- What a line says: the forms of lines, the frame that each stands for, and the call that it makes.
-use Rattle.std.specs.Prelude.{ℕ, ℤ, ◌==◌, nat_le, Bool, true, false, if◌then◌else◌, List, [], ◌∷◌, length, codes, Option, Some, None}
+use Rattle.std.specs.Prelude.{ℕ, ℤ, nat_le, Bool, if◌then◌else◌, List, [], ◌∷◌, length, codes, Option, Some, None}
 use Rattle.std.specs.List.{find}
-use Rattle.std.specs.Str.{bytes_eq, is_utf8}
+use Rattle.std.specs.Str.{bytes_eq}
 use Rattle.fidl_names.specs.declared.limits.TheConstants as limit
 use Rattle.link_frames.specs.declared.kinds.FrameKind.TheVariants as kind
 use Rattle.link_frames.specs.Frames.{Frame, frame_with}
@@ -14,7 +14,7 @@ use Rattle.io_client.specs.Calls.{request_frame, watcher_of}
 use Rattle.vfs_script.specs.declared.calls.Call.{Call}
 use Rattle.vfs_script.specs.declared.verbs.Verb.{Verb}
 use Rattle.vfs_script.specs.declared.verbs.Verb.TheVariants as verb
-use Rattle.vfs_script.specs.Words.{◌>>=◌, given, space, number_in, signed_of, bytes_of, handles_of}
+use Rattle.vfs_script.specs.Words.{◌>>=◌, space, number_in, signed_of, bytes_of, text_of, handles_of}
 use Rattle.text_pieces.specs.Pieces.{pieces}
 
 -- what a line says: a request on an endpoint, a message as it is, an endpoint hung up, turns of a
@@ -26,204 +26,122 @@ pub data Line : Type 0 where
   turn : (server count : ℕ) → Line
   pick : (endpoint : ℕ) → Line
 
--- the first word of each form
-abbrev pub word_of_verb : Verb → List ℕ
-word_of_verb verb.Open = codes "open"
-word_of_verb verb.Clone = codes "clone"
-word_of_verb verb.Close = codes "close"
-word_of_verb verb.Query = codes "query"
-word_of_verb verb.Sync = codes "sync"
-word_of_verb verb.Rewind = codes "rewind"
-word_of_verb verb.Token = codes "token"
-word_of_verb verb.Attributes = codes "attributes"
-word_of_verb verb.List = codes "list"
-word_of_verb verb.Rename = codes "rename"
-word_of_verb verb.Link = codes "link"
-word_of_verb verb.Unlink = codes "unlink"
-word_of_verb verb.Watch = codes "watch"
-word_of_verb verb.Read = codes "read"
-word_of_verb verb.ReadAt = codes "readat"
-word_of_verb verb.Write = codes "write"
-word_of_verb verb.WriteAt = codes "writeat"
-word_of_verb verb.Seek = codes "seek"
-word_of_verb verb.Resize = codes "resize"
-word_of_verb verb.Echo = codes "echo"
-word_of_verb verb.HangUp = codes "hangup"
-word_of_verb verb.Turn = codes "turn"
-word_of_verb verb.Pick = codes "pick"
-word_of_verb verb.Raw = codes "raw"
+-- ---- fields
+
+-- what a word of a line is: a name or a path as it stands, a number of 32 bits, one of 64, one of
+-- 64 with a sign, bytes, bytes that are UTF-8, handles
+pub data Field : Type 0 where
+  Name : Field
+  Short : Field
+  Long : Field
+  Signed : Field
+  Bytes : Field
+  Text : Field
+  Handles : Field
+
+abbrev pub Value : Field → Type 0
+Value Name = List ℕ
+Value Short = ℕ
+Value Long = ℕ
+Value Signed = ℤ
+Value Bytes = List ℕ
+Value Text = List ℕ
+Value Handles = List ℕ
+
+-- the value that a word has as such a field
+abbrev pub value_of : (field : Field) → List ℕ → Option (Value field)
+value_of Name word = Some word
+value_of Short word = number_in 32 word
+value_of Long word = number_in 64 word
+value_of Signed word = signed_of word
+value_of Bytes word = bytes_of word
+value_of Text word = text_of word
+value_of Handles word = handles_of word
+
+-- a line, for values of these fields
+abbrev pub Says : List Field → Type 0
+Says [] = Line
+Says (field ∷ fields) = Value field → Says fields
+
+-- ---- the forms
+
+-- a form of lines: its first word, the fields behind its endpoint, and what it says by their values
+pub record Form : Type 0 where
+  pub word : List ℕ
+  pub fields : List Field
+  pub says : (endpoint : ℕ) → Says fields
+
+abbrev pub form : List ℕ → (fields : List Field) → (ℕ → Says fields) → Form
+form word fields says = record { word = word; fields = fields; says = says }
+
+abbrev pub form_of : Verb → Form
+form_of verb.Open =
+    form (codes "open") (Name ∷ Long ∷ Short ∷ [])
+    (λ e path flags object. request e (asks.open_path path flags None object))
+form_of verb.Clone = form (codes "clone") (Short ∷ []) (λ e object. request e (asks.clone object))
+form_of verb.Close = form (codes "close") [] (λ e. request e asks.close)
+form_of verb.Query = form (codes "query") [] (λ e. request e asks.query)
+form_of verb.Sync = form (codes "sync") [] (λ e. request e asks.sync)
+form_of verb.Rewind = form (codes "rewind") [] (λ e. request e asks.rewind)
+form_of verb.Token = form (codes "token") [] (λ e. request e asks.get_token)
+form_of verb.Attributes = form (codes "attributes") (Long ∷ []) (λ e bits. request e (asks.get_attributes bits))
+form_of verb.List = form (codes "list") (Long ∷ []) (λ e most. request e (asks.read_dirents most))
+form_of verb.Rename =
+    form (codes "rename") (Name ∷ Short ∷ Name ∷ [])
+    (λ e src token dst. request e (asks.rename src token dst))
+form_of verb.Link =
+    form (codes "link") (Name ∷ Short ∷ Name ∷ [])
+    (λ e src token dst. request e (asks.link src token dst))
+form_of verb.Unlink = form (codes "unlink") (Name ∷ Long ∷ []) (λ e name flags. request e (asks.unlink name flags))
+form_of verb.Watch = form (codes "watch") (Short ∷ Short ∷ []) (λ e mask watcher. request e (asks.watch mask 0 watcher))
+form_of verb.Read = form (codes "read") (Long ∷ []) (λ e count. request e (asks.read count))
+form_of verb.ReadAt = form (codes "readat") (Long ∷ Long ∷ []) (λ e count offset. request e (asks.read_at count offset))
+form_of verb.Write = form (codes "write") (Bytes ∷ []) (λ e bytes. request e (asks.write bytes))
+form_of verb.WriteAt =
+    form (codes "writeat") (Bytes ∷ Long ∷ [])
+    (λ e bytes offset. request e (asks.write_at bytes offset))
+form_of verb.Seek = form (codes "seek") (Short ∷ Signed ∷ []) (λ e origin offset. request e (asks.seek origin offset))
+form_of verb.Resize = form (codes "resize") (Long ∷ []) (λ e size. request e (asks.resize size))
+form_of verb.Echo = form (codes "echo") (Text ∷ []) (λ e text. request e (asks.echo_string text))
+form_of verb.HangUp = form (codes "hangup") [] hang_up
+form_of verb.Turn = form (codes "turn") (Short ∷ []) turn
+form_of verb.Pick = form (codes "pick") [] pick
+form_of verb.Raw = form (codes "raw") (Handles ∷ Bytes ∷ []) raw
 
 abbrev pub all_verbs : List Verb
 all_verbs =
-    verb.Open ∷ verb.Clone ∷ verb.Close ∷ verb.Query ∷ verb.Sync ∷ verb.Rewind ∷ verb.Token ∷ verb.Attributes ∷ verb.List ∷ verb.Rename ∷ verb.Link ∷ verb.Unlink ∷ verb.Watch ∷ verb.Read ∷ verb.ReadAt ∷ verb.Write ∷ verb.WriteAt ∷ verb.Seek ∷ verb.Resize ∷ verb.Echo ∷ verb.HangUp ∷ verb.Turn ∷ verb.Pick ∷ verb.Raw ∷ []
+    verb.Open ∷ verb.Clone ∷ verb.Close ∷ verb.Query ∷ verb.Sync ∷ verb.Rewind ∷ verb.Token ∷ verb.Attributes
+    ∷ verb.List ∷ verb.Rename ∷ verb.Link ∷ verb.Unlink ∷ verb.Watch ∷ verb.Read ∷ verb.ReadAt ∷ verb.Write
+    ∷ verb.WriteAt ∷ verb.Seek ∷ verb.Resize ∷ verb.Echo ∷ verb.HangUp ∷ verb.Turn ∷ verb.Pick ∷ verb.Raw ∷ []
 
 unfoldable pub verb_of : List ℕ → Option Verb
-verb_of word = find (λ v. bytes_eq word (word_of_verb v)) all_verbs
+verb_of word = find (λ v. bytes_eq word ((form_of v).word)) all_verbs
 
--- exactly so many words
-abbrev pub one : {A : Type 0} → List (List ℕ) → (List ℕ → Option A) → Option A
-one (a ∷ []) form = form a
-one _ form = None
+-- ---- what a line says
 
-abbrev pub two : {A : Type 0} → List (List ℕ) → (List ℕ → List ℕ → Option A) → Option A
-two (a ∷ b ∷ []) form = form a b
-two _ form = None
+-- what is said by words that are the values of these fields, one for each
+abbrev pub said_by : (fields : List Field) → Says fields → List (List ℕ) → Option Line
+said_by [] line [] = Some line
+said_by (field ∷ fields) says (word ∷ words) = do
+  value ← value_of field word
+  said_by fields (says value) words
+said_by _ _ _ = None
 
-abbrev pub three : {A : Type 0} → List (List ℕ) → (List ℕ → List ℕ → List ℕ → Option A) → Option A
-three (a ∷ b ∷ c ∷ []) form = form a b c
-three _ form = None
+-- what the words behind the endpoint say, and those behind the first word
+abbrev pub behind : Verb → (endpoint : ℕ) → List (List ℕ) → Option Line
+behind v endpoint words = said_by ((form_of v).fields) ((form_of v).says endpoint) words
 
-abbrev pub four : {A : Type 0} → List (List ℕ) → (List ℕ → List ℕ → List ℕ → List ℕ → Option A) → Option A
-four (a ∷ b ∷ c ∷ d ∷ []) form = form a b c d
-four _ form = None
-
--- E: a request without fields
-abbrev pub plain_form : Asked → List ℕ → Option Line
-plain_form a e = do
+abbrev pub line_with : Verb → List (List ℕ) → Option Line
+line_with v [] = None
+line_with v (e ∷ words) = do
   endpoint ← number_in 32 e
-  Some (request endpoint a)
-
--- E N: a request with one number of 32 bits
-abbrev pub short_form : (ℕ → Asked) → List ℕ → List ℕ → Option Line
-short_form asking e n = do
-  endpoint ← number_in 32 e
-  number ← number_in 32 n
-  Some (request endpoint (asking number))
-
--- E N: a request with one number of 64 bits
-abbrev pub long_form : (ℕ → Asked) → List ℕ → List ℕ → Option Line
-long_form asking e n = do
-  endpoint ← number_in 32 e
-  number ← number_in 64 n
-  Some (request endpoint (asking number))
-
--- E PATH FLAGS N
-abbrev pub open_form : List ℕ → List ℕ → List ℕ → List ℕ → Option Line
-open_form e path f n = do
-  endpoint ← number_in 32 e
-  flags ← number_in 64 f
-  object ← number_in 32 n
-  Some (request endpoint (asks.open_path path flags None object))
-
--- E SRC T DST
-abbrev pub names_form : (List ℕ → ℕ → List ℕ → Asked) → List ℕ → List ℕ → List ℕ → List ℕ → Option Line
-names_form asking e src t dst = do
-  endpoint ← number_in 32 e
-  token ← number_in 32 t
-  Some (request endpoint (asking src token dst))
-
--- E NAME FLAGS
-abbrev pub unlink_form : List ℕ → List ℕ → List ℕ → Option Line
-unlink_form e name f = do
-  endpoint ← number_in 32 e
-  flags ← number_in 64 f
-  Some (request endpoint (asks.unlink name flags))
-
--- E MASK N
-abbrev pub watch_form : List ℕ → List ℕ → List ℕ → Option Line
-watch_form e m n = do
-  endpoint ← number_in 32 e
-  mask ← number_in 32 m
-  watcher ← number_in 32 n
-  Some (request endpoint (asks.watch mask 0 watcher))
-
--- E COUNT OFFSET
-abbrev pub read_at_form : List ℕ → List ℕ → List ℕ → Option Line
-read_at_form e n o = do
-  endpoint ← number_in 32 e
-  count ← number_in 64 n
-  offset ← number_in 64 o
-  Some (request endpoint (asks.read_at count offset))
-
--- E HEX
-abbrev pub write_form : List ℕ → List ℕ → Option Line
-write_form e hex = do
-  endpoint ← number_in 32 e
-  bytes ← bytes_of hex
-  Some (request endpoint (asks.write bytes))
-
--- E HEX OFFSET
-abbrev pub write_at_form : List ℕ → List ℕ → List ℕ → Option Line
-write_at_form e hex o = do
-  endpoint ← number_in 32 e
-  offset ← number_in 64 o
-  bytes ← bytes_of hex
-  Some (request endpoint (asks.write_at bytes offset))
-
--- E HEX, where the bytes are UTF-8
-abbrev pub echo_form : List ℕ → List ℕ → Option Line
-echo_form e hex = do
-  endpoint ← number_in 32 e
-  bytes ← bytes_of hex
-  given (is_utf8 bytes) (request endpoint (asks.echo_string bytes))
-
--- E ORIGIN OFFSET
-abbrev pub seek_form : List ℕ → List ℕ → List ℕ → Option Line
-seek_form e n o = do
-  endpoint ← number_in 32 e
-  origin ← number_in 32 n
-  offset ← signed_of o
-  Some (request endpoint (asks.seek origin offset))
-
--- E
-abbrev pub hang_up_form : List ℕ → Option Line
-hang_up_form e = do
-  endpoint ← number_in 32 e
-  Some (hang_up endpoint)
-
--- S N
-abbrev pub turn_form : List ℕ → List ℕ → Option Line
-turn_form s n = do
-  server ← number_in 32 s
-  count ← number_in 32 n
-  Some (turn server count)
-
--- E
-abbrev pub pick_form : List ℕ → Option Line
-pick_form e = do
-  endpoint ← number_in 32 e
-  Some (pick endpoint)
-
--- E HANDLES HEX
-abbrev pub raw_form : List ℕ → List ℕ → List ℕ → Option Line
-raw_form e hs hex = do
-  endpoint ← number_in 32 e
-  handles ← handles_of hs
-  bytes ← bytes_of hex
-  Some (raw endpoint handles bytes)
-
--- what the words behind the first one say
-abbrev pub form_of : Verb → List (List ℕ) → Option Line
-form_of verb.Open fields = four fields open_form
-form_of verb.Clone fields = two fields (short_form asks.clone)
-form_of verb.Close fields = one fields (plain_form asks.close)
-form_of verb.Query fields = one fields (plain_form asks.query)
-form_of verb.Sync fields = one fields (plain_form asks.sync)
-form_of verb.Rewind fields = one fields (plain_form asks.rewind)
-form_of verb.Token fields = one fields (plain_form asks.get_token)
-form_of verb.Attributes fields = two fields (long_form asks.get_attributes)
-form_of verb.List fields = two fields (long_form asks.read_dirents)
-form_of verb.Rename fields = four fields (names_form asks.rename)
-form_of verb.Link fields = four fields (names_form asks.link)
-form_of verb.Unlink fields = three fields unlink_form
-form_of verb.Watch fields = three fields watch_form
-form_of verb.Read fields = two fields (long_form asks.read)
-form_of verb.ReadAt fields = three fields read_at_form
-form_of verb.Write fields = two fields write_form
-form_of verb.WriteAt fields = three fields write_at_form
-form_of verb.Seek fields = three fields seek_form
-form_of verb.Resize fields = two fields (long_form asks.resize)
-form_of verb.Echo fields = two fields echo_form
-form_of verb.HangUp fields = one fields hang_up_form
-form_of verb.Turn fields = two fields turn_form
-form_of verb.Pick fields = one fields pick_form
-form_of verb.Raw fields = three fields raw_form
+  behind v endpoint words
 
 abbrev pub line_in : List (List ℕ) → Option Line
 line_in [] = None
-line_in (first ∷ fields) = do
+line_in (first ∷ words) = do
   v ← verb_of first
-  form_of v fields
+  line_with v words
 
 -- what a line says by its words, which stand between its spaces
 abbrev pub line_of : List ℕ → Option Line

@@ -2,7 +2,7 @@
 use Rattle.std.specs.Prelude.{ℕ, ℤ, pos, neg_ℤ, ◌==◌, ◌^◌, ◌&&◌, ◌||◌, nat_lt, nat_le, not, Bool, if◌then◌else◌, List, [], ◌∷◌, length, map, drop, slice_index, codes, Option, Some, None}
 use Rattle.std.specs.List.{list_all}
 use Rattle.std.specs.Result.{result_ok}
-use Rattle.std.specs.Str.{bytes_eq}
+use Rattle.std.specs.Str.{bytes_eq, is_utf8}
 use Rattle.std.specs.Str.Parse.{digits_value}
 use Rattle.fidl_names.specs.declared.limits.TheConstants as limit
 use Rattle.hex.specs.Hex.{decode_of}
@@ -95,6 +95,12 @@ bytes_of word =
     if bytes_eq word none_word then Some []
     else if list_all is_digit word && nat_lt 0 (length word) then result_ok (decode_of word)
     else None
+
+-- the same, where the bytes are UTF-8
+abbrev pub text_of : List ℕ → Option (List ℕ)
+text_of word = do
+  bytes ← bytes_of word
+  given (is_utf8 bytes) bytes
 
 -- numbers of 32 bits, joined by commas
 unfoldable pub numbers_of : List ℕ → Option (List ℕ)

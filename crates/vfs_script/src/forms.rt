@@ -1,17 +1,17 @@
 // The forms of lines.
 
-ghost use Rattle.std.specs.Prelude.{◌≡◌, Some};
+ghost use Rattle.std.specs.Prelude.{Some};
 ghost use Rattle.std.specs.Str.{IsUtf8};
 ghost use Rattle.io_messages.specs.Asked.{asked};
 ghost use Rattle.io_messages.specs.Writing.{HasTexts};
-ghost use Rattle.vfs_script.specs.Lines.{Line, line_of};
+ghost use Rattle.vfs_script.specs.Lines.{behind, line_of};
 ghost use Rattle.vfs_script.specs.Lines as lines;
-ghost use Rattle.vfs_script.specs.Parsed.{AreTexts, Forms, IsText, alone, behind, finished};
+ghost use Rattle.vfs_script.specs.Parsed.{AreTexts, Forms, IsText, ended, finished};
 
-use crate::numbers::signed;
-use crate::pieces::Pieces;
+use crate::numbers::{long, short, signed};
 use crate::verbs::{Verb, verb_of};
 use io_messages::Request;
+use text_pieces::Pieces;
 
 /// A line whose numbers were read, but neither its bytes nor its handles.
 #[derive(Clone, Copy)]
@@ -47,20 +47,20 @@ pub(crate) enum Parsed<'a> {
     },
 }
 
-// Nothing behind the endpoint.
-fn alone<'a>(parsed: Parsed<'a>, fields: Pieces<'a>) -> Option<Parsed<'a>>
+// What was read, where no word is left.
+fn ended<'a>(parsed: Parsed<'a>, mut words: Pieces<'a>) -> Option<Parsed<'a>>
     requires { IsText parsed }
-    ensures { (line : Line) → finished parsed.entry ≡ Some line → Forms (alone fields.entry line) result }
+    ensures { Forms (ended words.entry (finished parsed.entry)) result }
 {
-    fields.is_empty().then_some(parsed)
+    words.next().is_none().then_some(parsed)
 }
 
 // A request without fields.
 fn plain_form<'a>(endpoint: u32, request: Request<'a>, fields: Pieces<'a>) -> Option<Parsed<'a>>
     requires { HasTexts (asked request) }
-    ensures { Forms (alone fields.entry (lines.request endpoint (asked request.entry))) result }
+    ensures { Forms (ended fields.entry (Some (lines.request endpoint (asked request.entry)))) result }
 {
-    alone(Parsed::Request(endpoint, request), fields)
+    ended(Parsed::Request(endpoint, request), fields)
 }
 
 // Behind `open E`: PATH FLAGS N
@@ -69,39 +69,44 @@ fn open_form<'a>(endpoint: u32, mut fields: Pieces<'a>) -> Option<Parsed<'a>>
     ensures { Forms (behind Verb.Open endpoint fields.entry) result }
 {
     let path = fields.next()?;
-    let flags = fields.long()?;
-    let object = fields.only_short()?;
+    let flags = long(fields.next()?)?;
+    let object = short(fields.next()?)?;
     let request = Request::OpenPath {
         path,
         flags,
         attributes: None,
         object,
     };
-    Some(Parsed::Request(endpoint, request))
+    ended(Parsed::Request(endpoint, request), fields)
 }
 
 // Behind `clone E`: N
-fn clone_form<'a>(endpoint: u32, fields: Pieces<'a>) -> Option<Parsed<'a>>
+fn clone_form<'a>(endpoint: u32, mut fields: Pieces<'a>) -> Option<Parsed<'a>>
     ensures { Forms (behind Verb.Clone endpoint fields.entry) result }
 {
-    let request = fields.only_short()?;
-    Some(Parsed::Request(endpoint, Request::Clone { request }))
+    let request = short(fields.next()?)?;
+    ended(
+        Parsed::Request(endpoint, Request::Clone { request }),
+        fields,
+    )
 }
 
 // Behind `attributes E`: Q
-fn attributes_form<'a>(endpoint: u32, fields: Pieces<'a>) -> Option<Parsed<'a>>
+fn attributes_form<'a>(endpoint: u32, mut fields: Pieces<'a>) -> Option<Parsed<'a>>
     ensures { Forms (behind Verb.Attributes endpoint fields.entry) result }
 {
-    let query = fields.only_long()?;
-    Some(Parsed::Request(endpoint, Request::GetAttributes { query }))
+    let query = long(fields.next()?)?;
+    let request = Request::GetAttributes { query };
+    ended(Parsed::Request(endpoint, request), fields)
 }
 
 // Behind `list E`: MAX
-fn list_form<'a>(endpoint: u32, fields: Pieces<'a>) -> Option<Parsed<'a>>
+fn list_form<'a>(endpoint: u32, mut fields: Pieces<'a>) -> Option<Parsed<'a>>
     ensures { Forms (behind Verb.List endpoint fields.entry) result }
 {
-    let max_bytes = fields.only_long()?;
-    Some(Parsed::Request(endpoint, Request::ReadDirents { max_bytes }))
+    let max_bytes = long(fields.next()?)?;
+    let request = Request::ReadDirents { max_bytes };
+    ended(Parsed::Request(endpoint, request), fields)
 }
 
 // Behind `rename E`: SRC T DST
@@ -110,9 +115,10 @@ fn rename_form<'a>(endpoint: u32, mut fields: Pieces<'a>) -> Option<Parsed<'a>>
     ensures { Forms (behind Verb.Rename endpoint fields.entry) result }
 {
     let src = fields.next()?;
-    let token = fields.short()?;
-    let dst = fields.one()?;
-    Some(Parsed::Request(endpoint, Request::Rename { src, token, dst }))
+    let token = short(fields.next()?)?;
+    let dst = fields.next()?;
+    let request = Request::Rename { src, token, dst };
+    ended(Parsed::Request(endpoint, request), fields)
 }
 
 // Behind `link E`: SRC T DST
@@ -121,9 +127,10 @@ fn link_form<'a>(endpoint: u32, mut fields: Pieces<'a>) -> Option<Parsed<'a>>
     ensures { Forms (behind Verb.Link endpoint fields.entry) result }
 {
     let src = fields.next()?;
-    let token = fields.short()?;
-    let dst = fields.one()?;
-    Some(Parsed::Request(endpoint, Request::Link { src, token, dst }))
+    let token = short(fields.next()?)?;
+    let dst = fields.next()?;
+    let request = Request::Link { src, token, dst };
+    ended(Parsed::Request(endpoint, request), fields)
 }
 
 // Behind `unlink E`: NAME FLAGS
@@ -132,47 +139,50 @@ fn unlink_form<'a>(endpoint: u32, mut fields: Pieces<'a>) -> Option<Parsed<'a>>
     ensures { Forms (behind Verb.Unlink endpoint fields.entry) result }
 {
     let name = fields.next()?;
-    let flags = fields.only_long()?;
-    Some(Parsed::Request(endpoint, Request::Unlink { name, flags }))
+    let flags = long(fields.next()?)?;
+    let request = Request::Unlink { name, flags };
+    ended(Parsed::Request(endpoint, request), fields)
 }
 
 // Behind `watch E`: MASK N
 fn watch_form<'a>(endpoint: u32, mut fields: Pieces<'a>) -> Option<Parsed<'a>>
     ensures { Forms (behind Verb.Watch endpoint fields.entry) result }
 {
-    let mask = fields.short()?;
-    let watcher = fields.only_short()?;
+    let mask = short(fields.next()?)?;
+    let watcher = short(fields.next()?)?;
     let request = Request::Watch {
         mask,
         options: 0,
         watcher,
     };
-    Some(Parsed::Request(endpoint, request))
+    ended(Parsed::Request(endpoint, request), fields)
 }
 
 // Behind `read E`: COUNT
-fn read_form<'a>(endpoint: u32, fields: Pieces<'a>) -> Option<Parsed<'a>>
+fn read_form<'a>(endpoint: u32, mut fields: Pieces<'a>) -> Option<Parsed<'a>>
     ensures { Forms (behind Verb.Read endpoint fields.entry) result }
 {
-    let count = fields.only_long()?;
-    Some(Parsed::Request(endpoint, Request::Read { count }))
+    let count = long(fields.next()?)?;
+    let request = Request::Read { count };
+    ended(Parsed::Request(endpoint, request), fields)
 }
 
 // Behind `readat E`: COUNT OFFSET
 fn read_at_form<'a>(endpoint: u32, mut fields: Pieces<'a>) -> Option<Parsed<'a>>
     ensures { Forms (behind Verb.ReadAt endpoint fields.entry) result }
 {
-    let count = fields.long()?;
-    let offset = fields.only_long()?;
-    Some(Parsed::Request(endpoint, Request::ReadAt { count, offset }))
+    let count = long(fields.next()?)?;
+    let offset = long(fields.next()?)?;
+    let request = Request::ReadAt { count, offset };
+    ended(Parsed::Request(endpoint, request), fields)
 }
 
 // Behind `write E`: HEX
-fn write_form<'a>(endpoint: u32, fields: Pieces<'a>) -> Option<Parsed<'a>>
+fn write_form<'a>(endpoint: u32, mut fields: Pieces<'a>) -> Option<Parsed<'a>>
     ensures { Forms (behind Verb.Write endpoint fields.entry) result }
 {
-    let hex = fields.one()?;
-    Some(Parsed::Write { endpoint, hex })
+    let hex = fields.next()?;
+    ended(Parsed::Write { endpoint, hex }, fields)
 }
 
 // Behind `writeat E`: HEX OFFSET
@@ -180,55 +190,59 @@ fn write_at_form<'a>(endpoint: u32, mut fields: Pieces<'a>) -> Option<Parsed<'a>
     ensures { Forms (behind Verb.WriteAt endpoint fields.entry) result }
 {
     let hex = fields.next()?;
-    let offset = fields.only_long()?;
-    Some(Parsed::WriteAt {
+    let offset = long(fields.next()?)?;
+    let parsed = Parsed::WriteAt {
         endpoint,
         offset,
         hex,
-    })
+    };
+    ended(parsed, fields)
 }
 
 // Behind `seek E`: ORIGIN OFFSET
 fn seek_form<'a>(endpoint: u32, mut fields: Pieces<'a>) -> Option<Parsed<'a>>
     ensures { Forms (behind Verb.Seek endpoint fields.entry) result }
 {
-    let origin = fields.short()?;
-    let offset = signed(fields.one()?)?;
-    Some(Parsed::Request(endpoint, Request::Seek { origin, offset }))
+    let origin = short(fields.next()?)?;
+    let offset = signed(fields.next()?)?;
+    let request = Request::Seek { origin, offset };
+    ended(Parsed::Request(endpoint, request), fields)
 }
 
 // Behind `resize E`: LENGTH
-fn resize_form<'a>(endpoint: u32, fields: Pieces<'a>) -> Option<Parsed<'a>>
+fn resize_form<'a>(endpoint: u32, mut fields: Pieces<'a>) -> Option<Parsed<'a>>
     ensures { Forms (behind Verb.Resize endpoint fields.entry) result }
 {
-    let length = fields.only_long()?;
-    Some(Parsed::Request(endpoint, Request::Resize { length }))
+    let length = long(fields.next()?)?;
+    let request = Request::Resize { length };
+    ended(Parsed::Request(endpoint, request), fields)
 }
 
 // Behind `echo E`: HEX
-fn echo_form<'a>(endpoint: u32, fields: Pieces<'a>) -> Option<Parsed<'a>>
+fn echo_form<'a>(endpoint: u32, mut fields: Pieces<'a>) -> Option<Parsed<'a>>
     ensures { Forms (behind Verb.Echo endpoint fields.entry) result }
 {
-    let hex = fields.one()?;
-    Some(Parsed::Echo { endpoint, hex })
+    let hex = fields.next()?;
+    ended(Parsed::Echo { endpoint, hex }, fields)
 }
 
 // Behind `hangup E`: nothing
 fn hang_up_form<'a>(endpoint: u32, fields: Pieces<'a>) -> Option<Parsed<'a>>
     ensures { Forms (behind Verb.HangUp endpoint fields.entry) result }
 {
-    alone(Parsed::HangUp { endpoint }, fields)
+    ended(Parsed::HangUp { endpoint }, fields)
 }
 
 // Behind `turn S`: N
-fn turn_form<'a>(endpoint: u32, fields: Pieces<'a>) -> Option<Parsed<'a>>
+fn turn_form<'a>(endpoint: u32, mut fields: Pieces<'a>) -> Option<Parsed<'a>>
     ensures { Forms (behind Verb.Turn endpoint fields.entry) result }
 {
-    let count = fields.only_short()?;
-    Some(Parsed::Turn {
+    let count = short(fields.next()?)?;
+    let parsed = Parsed::Turn {
         server: endpoint,
         count,
-    })
+    };
+    ended(parsed, fields)
 }
 
 // Behind `raw E`: HANDLES HEX
@@ -236,12 +250,13 @@ fn raw_form<'a>(endpoint: u32, mut fields: Pieces<'a>) -> Option<Parsed<'a>>
     ensures { Forms (behind Verb.Raw endpoint fields.entry) result }
 {
     let handles = fields.next()?;
-    let hex = fields.one()?;
-    Some(Parsed::Raw {
+    let hex = fields.next()?;
+    let parsed = Parsed::Raw {
         endpoint,
         handles,
         hex,
-    })
+    };
+    ended(parsed, fields)
 }
 
 // What the words behind the verb and the endpoint say.
@@ -272,7 +287,7 @@ fn form_of<'a>(verb: Verb, endpoint: u32, fields: Pieces<'a>) -> Option<Parsed<'
         Verb::Echo => echo_form(endpoint, fields),
         Verb::HangUp => hang_up_form(endpoint, fields),
         Verb::Turn => turn_form(endpoint, fields),
-        Verb::Pick => alone(Parsed::Pick { endpoint }, fields),
+        Verb::Pick => ended(Parsed::Pick { endpoint }, fields),
         Verb::Raw => raw_form(endpoint, fields),
     }
 }
@@ -284,6 +299,6 @@ pub(crate) fn line_of(line: &[u8]) -> Option<Parsed<'_>>
 {
     let mut words = Pieces::new(b' ', line);
     let verb = verb_of(words.next()?)?;
-    let endpoint = words.short()?;
+    let endpoint = short(words.next()?)?;
     form_of(verb, endpoint, words)
 }

@@ -1,6 +1,6 @@
 // The frames and calls of the lines so far.
 
-ghost use Rattle.std.specs.Prelude.{◌≡◌, ◌<◌, [], length, if◌then◌else◌, IfOk, IfErr, OnOk, None, Some};
+ghost use Rattle.std.specs.Prelude.{◌≡◌, ◌<◌, [], ◌∷◌, length, if◌then◌else◌, IfOk, IfErr, OnOk, None, Some};
 ghost use Rattle.std.specs.Str.{IsUtf8};
 ghost use Rattle.link_frames.specs.Frames.{HasShape, frame_with};
 ghost use Rattle.io_messages.specs.Asked.{asked};
@@ -8,18 +8,19 @@ ghost use Rattle.io_messages.specs.Shapes.{is_one_way};
 ghost use Rattle.io_messages.specs.Writing.{HasTexts};
 ghost use Rattle.vfs_script.specs.declared.faults.ScriptFault.TheVariants as fault;
 ghost use Rattle.vfs_script.specs.Kept.{Takes, kept_and};
-ghost use Rattle.vfs_script.specs.Lines.{call_of};
+ghost use Rattle.vfs_script.specs.declared.verbs.Verb.TheVariants as verb;
+ghost use Rattle.vfs_script.specs.Lines.{behind, call_of};
 ghost use Rattle.vfs_script.specs.Lines as lines;
-ghost use Rattle.vfs_script.specs.Parsed.{echo_line, raw_line, write_at_line, write_line};
+ghost use Rattle.vfs_script.specs.Parsed.{write_at_line};
 ghost use Rattle.vfs_script.specs.Scripts.{said_at, spoken};
 
 use crate::calls::Call;
 use crate::faults::ScriptFault;
 use crate::forms::{Parsed, line_of};
-use crate::numbers::{bytes, handles, is_text};
+use crate::numbers::{bytes, handles};
 use byteorder::{ByteOrder, LittleEndian};
 use fidl_names::{MAX_BYTES, Method, NoMemory};
-use fidl_wire::{Ordinals, Out};
+use fidl_wire::{Ordinals, Out, is_utf8};
 use io_client::watcher_of;
 use io_messages::{Request, is_one_way, write_request};
 use link_frames::{FrameKind, Outbox, write_frame, write_message};
@@ -98,7 +99,7 @@ impl Frames {
 
     fn write(&mut self, number: u32, endpoint: u32, hex: &[u8]) -> Result<(), ScriptFault>
         requires { 0 < number }
-        ensures { Takes number (said_at number (write_line endpoint hex.now)) self.old self.new result }
+        ensures { Takes number (said_at number (behind verb.Write endpoint (hex.now ∷ []))) self.old self.new result }
     {
         match bytes(self.alloc, hex)? {
             Some(bytes) => self.ask(number, endpoint, Request::Write { bytes: &bytes }),
@@ -130,12 +131,12 @@ impl Frames {
 
     fn echo(&mut self, number: u32, endpoint: u32, hex: &[u8]) -> Result<(), ScriptFault>
         requires { 0 < number }
-        ensures { Takes number (said_at number (echo_line endpoint hex.now)) self.old self.new result }
+        ensures { Takes number (said_at number (behind verb.Echo endpoint (hex.now ∷ []))) self.old self.new result }
     {
         let Some(bytes) = bytes(self.alloc, hex)? else {
             return Err(bad(number));
         };
-        if !is_text(&bytes) {
+        if !is_utf8(&bytes) {
             return Err(bad(number));
         }
         self.ask(number, endpoint, Request::EchoString { value: &bytes })
@@ -148,7 +149,7 @@ impl Frames {
         words: &[u8],
         hex: &[u8],
     ) -> Result<(), ScriptFault>
-        ensures { Takes number (said_at number (raw_line endpoint words.now hex.now)) self.old self.new result }
+        ensures { Takes number (said_at number (behind verb.Raw endpoint (words.now ∷ hex.now ∷ []))) self.old self.new result }
     {
         let Some(handles) = handles(self.alloc, words)? else {
             return Err(bad(number));

@@ -9,7 +9,6 @@ mod frames;
 mod laws;
 mod numbers;
 mod outtext;
-mod pieces;
 mod printing;
 mod script;
 mod verbs;

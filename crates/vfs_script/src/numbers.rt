@@ -1,24 +1,17 @@
 // The words of a line: numbers, bytes as hexadecimal digits, handles.
 
-ghost use Rattle.std.specs.Prelude.{◌≡◌, ◌^◌, ◌<◌, ◌≤◌, ◌&&◌, ℕ, true, length, nat_lt, slice_index, Some, IfOk, IfSome, IsTrue};
+ghost use Rattle.std.specs.Prelude.{◌≡◌, ◌^◌, ◌<◌, ◌≤◌, ◌&&◌, true, length, nat_lt, Some, IfOk, IfSome};
 ghost use Rattle.std.specs.List.{list_all};
 ghost use Rattle.std.specs.Option.{option_map};
-ghost use Rattle.std.specs.Str.{IsUtf8, is_utf8};
-ghost use Rattle.memchr.specs.Find.{IsFirstByte, is_byte};
-ghost use Rattle.std.specs.Char.{digit_value};
 ghost use Rattle.std.specs.Str.Parse.{IsNumeral, digits_value};
-ghost use Rattle.vfs_script.specs.Parsed.{piece_at};
 ghost use Rattle.vfs_script.specs.Words.{bytes_of, given, handles_of, has_prefix, is_decimal, is_decimal_digit, is_digit, is_hexadecimal, is_led, negative_of, number_in, numbers_of, signed_of};
 
-use crate::pieces::Pieces;
 use fidl_names::{MAX_HANDLES, NoMemory};
 use hex::FromHexError;
 use std::alloc::Global;
+use text_pieces::Pieces;
 
 const NONE: &[u8] = b"-";
-
-/// So many decimal digits fit 64 bits, whatever they are.
-const FEW_DIGITS: usize = 19;
 
 fn is_decimal_digit(byte: u8) -> bool
     ensures { result ≡ is_decimal_digit byte }
@@ -31,28 +24,6 @@ fn is_digit(byte: u8) -> bool
     ensures { result ≡ is_digit byte }
 {
     is_decimal_digit(byte) || (byte >= b'a' && byte <= b'f')
-}
-
-// The greatest of some bytes, or 0. No byte ends the loop, so that many are read at once.
-fn greatest(bytes: &[u8]) -> u8
-    ensures { (k : ℕ) → k < length bytes.now → slice_index bytes.now k ≤ result }
-{
-    let mut greatest = 0;
-    for i in 0..bytes.len() {
-        greatest = bytes[i].max(greatest);
-    }
-    greatest
-}
-
-/// Whether these bytes are UTF-8. Bytes of ASCII are, and are told by the greatest of them.
-pub(crate) fn is_text(bytes: &[u8]) -> bool
-    ensures value { result ≡ is_utf8 bytes.now }
-    ensures text { IsTrue result → IsUtf8 bytes.now }
-{
-    if greatest(bytes) < 0x80 {
-        return true;
-    }
-    str::from_utf8(bytes).is_ok()
 }
 
 fn all_decimal(word: &[u8]) -> bool
@@ -121,62 +92,15 @@ fn decimal(word: &[u8]) -> Option<u64>
     digits(word, 10)
 }
 
-/// The number that the first piece of a text is, where few decimal digits write it with no zero in
-/// front, and the end of the piece. They are read while its end is looked for.
-#[inline(always)]
-pub(crate) fn decimal_in_front(by: u8, text: &[u8]) -> Option<(Option<usize>, u64)>
-    ensures end { IfSome result (λ found. IsFirstByte (is_byte by) text.now found.0) }
-    ensures number { IfSome result (λ found. number_in 64 (piece_at text.now found.0) ≡ Some found.1) }
-{
-    if text.is_empty() || text[0] == by || text[0] == b'0' {
-        return None;
-    }
-    let most = text.len().min(FEW_DIGITS);
-    let mut number = 0;
-    for i in 0..most {
-        let byte = text[i];
-        if byte == by {
-            return Some((Some(i), number));
-        }
-        if !is_decimal_digit(byte) {
-            return None;
-        }
-        number = 10 * number + u64::from(byte - b'0');
-    }
-    if most < text.len() {
-        return None;
-    }
-    Some((None, number))
-}
-
-// The value of a hexadecimal digit.
-fn digit_value(byte: u8) -> u64
-    requires { is_digit byte ≡ true }
-    ensures { result ≡ digit_value byte }
-{
-    if byte <= b'9' {
-        u64::from(byte - b'0')
-    } else {
-        u64::from(byte - b'a') + 10
-    }
-}
-
 // The number that 1 to 16 hexadecimal digits write. So few fit.
 fn hexadecimal(word: &[u8]) -> Option<u64>
     ensures value { result ≡ given (is_hexadecimal word.now) (digits_value 16 word.now) }
     ensures fits { IfSome result (λ number. number < 2 ^ 64) }
 {
-    if word.is_empty() || word.len() > 16 {
+    if word.is_empty() || word.len() > 16 || !all_digits(word) {
         return None;
     }
-    let mut number = 0;
-    for byte in word {
-        if !is_digit(*byte) {
-            return None;
-        }
-        number = 16 * number + digit_value(*byte);
-    }
-    Some(number)
+    digits(word, 16)
 }
 
 /// A number of 64 bits: decimal without leading zeros, or `0x` and 1 to 16 of the digits 0 to 9 and

@@ -11,14 +11,13 @@ ghost use Rattle.vfs_script.specs.Scripts.{IsFirstBad, bad_heads, bad_in, bad_li
 use crate::calls::Call;
 use crate::faults::ScriptFault;
 use crate::frames::Frames;
-use crate::numbers::is_text;
-use crate::pieces::Pieces;
 use fidl_names::{MAX_TEXT, NoMemory};
-use fidl_wire::Ordinals;
+use fidl_wire::{Ordinals, is_utf8};
 use io_client::{Client, ClientFault};
 use link_frames::{Mode, Outbox};
 use std::alloc::Global;
 use std::marker::Model;
+use text_pieces::Pieces;
 
 /// A script: its mode, its frames, and beside each frame the call that it makes, if any.
 pub struct Script {
@@ -186,7 +185,7 @@ impl<'a> Lines<'a> {
         Lines {
             number: 1,
             pieces: Pieces::new(b'\n', text),
-            is_text: is_text(text),
+            is_text: is_utf8(text),
         }
     }
 
@@ -198,7 +197,7 @@ impl<'a> Lines<'a> {
         ensures utf8 { IfSome result (λ line. line.2 ≡ is_utf8 line.1.now) }
         ensures text { IfSome result (λ line. IsTrue line.2 → IsUtf8 line.1.now) }
     {
-        let line = self.pieces.next_long()?;
+        let line = self.pieces.next()?;
         let number = self.number;
         self.number += 1;
         let is_text = is_line_text(self.is_text, line);
@@ -212,7 +211,7 @@ fn is_line_text(is_known: bool, line: &[u8]) -> bool
     ensures utf8 { result ≡ is_utf8 line.now }
     ensures text { IsTrue result → IsUtf8 line.now }
 {
-    is_known || is_text(line)
+    is_known || is_utf8(line)
 }
 
 fn is_skipped(line: &[u8]) -> bool
@@ -257,7 +256,7 @@ fn first_bad(bad: Option<u32>, number: u32, line: &[u8]) -> Option<u32>
 {
     match bad {
         Some(bad) => Some(bad),
-        None if is_text(line) => None,
+        None if is_utf8(line) => None,
         None => Some(number),
     }
 }

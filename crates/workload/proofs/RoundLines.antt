@@ -6,7 +6,7 @@ use Rattle.hex.specs.Hex.{encode_lower, lower_digits}
 use Rattle.hex.proofs.HexLemmas.{length-encode_with}
 use Rattle.io_messages.specs.Asked as asked
 use Rattle.vfs_script.specs.Words.{number_in, number_of, is_led, is_decimal_digit, is_digit}
-use Rattle.vfs_script.specs.Lines.{request, hang_up, verb_of, line_in, open_form, long_form, write_form, unlink_form, hang_up_form}
+use Rattle.vfs_script.specs.Lines.{request, hang_up, verb_of}
 use Rattle.workload.specs.Workload.{Words, acts, asks, directory, drawn, endpoint, file, opens, path, round, rounds_up_to}
 use Rattle.workload.proofs.Numerals.{all_digits, decimal_in, digits_in, hex_digits}
 use Rattle.workload.proofs.Plain.{IsPlain, all_both, all_by, is_word_byte}
@@ -78,77 +78,59 @@ module _ (k : ℕ) (few : k ≤ 10000) where
   unfolding number_in number_of is_led
   one_is = refl
 
-  open_line : (a b c d : List ℕ) → line_in (codes "open" ∷ a ∷ b ∷ c ∷ d ∷ []) ≡ open_form a b c d
-  unfolding verb_of
-  open_line a b c d = refl
-
   open_good : (at flags : List ℕ) (bits : ℕ) → IsPlain at → IsPlain flags → length at ≤ 1000 → number_in 64 flags ≡ Some bits → IsGood (opens k at flags)
+  unfolding verb_of
   open_good at flags bits plain plain_flags short is =
       good_by (codes "open") (codes "1" ∷ at ∷ flags ∷ endpoint k ∷ []) (request 1 (asked.open_path at bits None (k + 1)))
       (refl, (refl, (plain, (plain_flags, (endpoint_plain, tt))))) refl
-      (open_line (codes "1") at flags (endpoint k) ∙ rw one_is (rw is (rw endpoint_is refl)))
+      (rw one_is (rw is (rw endpoint_is refl)))
       (λ number. open_fits at bits (k + 1) short number 1)
 
-  write_line : (a b : List ℕ) → line_in (codes "write" ∷ a ∷ b ∷ []) ≡ write_form a b
-  unfolding verb_of
-  write_line a b = refl
-
   write_good : IsGood (asks k (codes "write") (encode_lower (decimal k) ∷ []))
+  unfolding verb_of
   write_good =
       let small = length-decimal-le 5 k (omega arith) (omega (arith, few)) (omega (arith, few)) in
       good_by (codes "write") (endpoint k ∷ encode_lower (decimal k) ∷ []) (request (k + 1) (asked.write (decimal k)))
       (refl, (endpoint_plain, (hex_plain k (omega (arith, few)), tt))) refl
-      (write_line (endpoint k) (encode_lower (decimal k)) ∙ rw endpoint_is (rw (digits_in k (omega (arith, few))) refl))
+      (rw endpoint_is (rw (digits_in k (omega (arith, few))) refl))
       (λ number. write_fits (decimal k) (omega (arith, small)) number (k + 1))
-
-  read_line : (a b : List ℕ) → line_in (codes "read" ∷ a ∷ b ∷ []) ≡ long_form asked.read a b
-  unfolding verb_of
-  read_line a b = refl
 
   sixty_four : number_in 64 (codes "64") ≡ Some 64
   unfolding number_in number_of is_led
   sixty_four = refl
 
   read_good : IsGood (asks k (codes "read") (codes "64" ∷ []))
+  unfolding verb_of
   read_good =
       good_by (codes "read") (endpoint k ∷ codes "64" ∷ []) (request (k + 1) (asked.read 64))
-      (refl, (endpoint_plain, (refl, tt))) refl (read_line (endpoint k) (codes "64") ∙ rw endpoint_is (rw sixty_four refl)) (λ number. read_fits 64 number (k + 1))
-
-  list_line : (a b : List ℕ) → line_in (codes "list" ∷ a ∷ b ∷ []) ≡ long_form asked.read_dirents a b
-  unfolding verb_of
-  list_line a b = refl
+      (refl, (endpoint_plain, (refl, tt))) refl (rw endpoint_is (rw sixty_four refl)) (λ number. read_fits 64 number (k + 1))
 
   most_listed : number_in 64 (codes "8192") ≡ Some 8192
   unfolding number_in number_of is_led
   most_listed = refl
 
   list_good : IsGood (asks k (codes "list") (codes "8192" ∷ []))
+  unfolding verb_of
   list_good =
       good_by (codes "list") (endpoint k ∷ codes "8192" ∷ []) (request (k + 1) (asked.read_dirents 8192))
-      (refl, (endpoint_plain, (refl, tt))) refl (list_line (endpoint k) (codes "8192") ∙ rw endpoint_is (rw most_listed refl)) (λ number. list_fits 8192 number (k + 1))
-
-  unlink_line : (a b c : List ℕ) → line_in (codes "unlink" ∷ a ∷ b ∷ c ∷ []) ≡ unlink_form a b c
-  unfolding verb_of
-  unlink_line a b c = refl
+      (refl, (endpoint_plain, (refl, tt))) refl (rw endpoint_is (rw most_listed refl)) (λ number. list_fits 8192 number (k + 1))
 
   no_flags : number_in 64 (codes "0") ≡ Some 0
   unfolding number_in number_of is_led
   no_flags = refl
 
   unlink_good : (v : ℕ) → IsGood (asks k (codes "unlink") (file v ∷ codes "0" ∷ []))
+  unfolding verb_of
   unlink_good v =
       let short = file_short v in
       good_by (codes "unlink") (endpoint k ∷ file v ∷ codes "0" ∷ []) (request (k + 1) (asked.unlink (file v) 0))
-      (refl, (endpoint_plain, (file_plain v, (refl, tt)))) refl (unlink_line (endpoint k) (file v) (codes "0") ∙ rw endpoint_is (rw no_flags refl))
+      (refl, (endpoint_plain, (file_plain v, (refl, tt)))) refl (rw endpoint_is (rw no_flags refl))
       (λ number. unlink_fits (file v) (omega (arith, short)) number (k + 1))
 
-  hang_up_line : (a : List ℕ) → line_in (codes "hangup" ∷ a ∷ []) ≡ hang_up_form a
-  unfolding verb_of
-  hang_up_line a = refl
-
   hang_up_good : IsGood (asks k (codes "hangup") [])
+  unfolding verb_of
   hang_up_good =
-      good_by (codes "hangup") (endpoint k ∷ []) (hang_up (k + 1)) (refl, (endpoint_plain, tt)) refl (hang_up_line (endpoint k) ∙ rw endpoint_is refl) (λ number. refl)
+      good_by (codes "hangup") (endpoint k ∷ []) (hang_up (k + 1)) (refl, (endpoint_plain, tt)) refl (rw endpoint_is refl) (λ number. refl)
 
   flags_are_0 : number_in 64 (codes "0x10800000006") ≡ Some 0x10800000006
   unfolding number_in number_of is_led

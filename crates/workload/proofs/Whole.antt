@@ -7,7 +7,7 @@ use Rattle.link_frames.specs.declared.kinds.Mode.TheVariants as mode
 use Rattle.fidl_names.specs.declared.limits.TheConstants as limit
 use Rattle.io_messages.specs.Asked as asked
 use Rattle.vfs_script.specs.Words.{number_in, number_of, is_led, newline}
-use Rattle.vfs_script.specs.Lines.{line_in, open_form, request, verb_of, watch_form}
+use Rattle.vfs_script.specs.Lines.{request, verb_of}
 use Rattle.vfs_script.specs.Scripts.{bad_line, frame_of, frames_of, script_lines, script_mode}
 use Rattle.workload.specs.Laws.{WorkloadsAreScripts}
 use Rattle.workload.specs.Workload.{Words, acts, asks, directory, drawn, endpoint, file, first_lines, line_text, opens, path, round, rounds_up_to, texts, workload}
@@ -22,14 +22,6 @@ opened = codes "open" ∷ codes "1" ∷ codes "m/d" ∷ codes "0x40" ∷ codes "
 
 watched : Words
 watched = codes "watch" ∷ codes "1000000" ∷ codes "31" ∷ codes "1000001" ∷ []
-
-open_says : (a b c d : List ℕ) → line_in (codes "open" ∷ a ∷ b ∷ c ∷ d ∷ []) ≡ open_form a b c d
-unfolding verb_of
-open_says a b c d = refl
-
-watch_says : (a b c : List ℕ) → line_in (codes "watch" ∷ a ∷ b ∷ c ∷ []) ≡ watch_form a b c
-unfolding verb_of
-watch_says a b c = refl
 
 one_is : number_in 32 (codes "1") ≡ Some 1
 unfolding number_in number_of is_led
@@ -52,16 +44,16 @@ unfolding number_in number_of is_led
 next_is = refl
 
 open_good : IsGood opened
-unfolding opened
+unfolding opened verb_of
 open_good =
     good_by (codes "open") (codes "1" ∷ codes "m/d" ∷ codes "0x40" ∷ codes "1000000" ∷ []) (request 1 (asked.open_path (codes "m/d") 64 None 1000000))
-    (refl, (refl, (refl, (refl, (refl, tt))))) refl (open_says (codes "1") (codes "m/d") (codes "0x40") (codes "1000000") ∙ rw one_is (rw flags_are (rw million_is refl))) (λ number. open_fits (codes "m/d") 64 1000000 (omega arith) number 1)
+    (refl, (refl, (refl, (refl, (refl, tt))))) refl (rw one_is (rw flags_are (rw million_is refl))) (λ number. open_fits (codes "m/d") 64 1000000 (omega arith) number 1)
 
 watch_good : IsGood watched
-unfolding watched
+unfolding watched verb_of
 watch_good =
     good_by (codes "watch") (codes "1000000" ∷ codes "31" ∷ codes "1000001" ∷ []) (request 1000000 (asked.watch 31 0 1000001))
-    (refl, (refl, (refl, (refl, tt)))) refl (watch_says (codes "1000000") (codes "31") (codes "1000001") ∙ rw million_is (rw mask_is (rw next_is refl))) (λ number. watch_fits 31 1000001 number 1000000)
+    (refl, (refl, (refl, (refl, tt)))) refl (rw million_is (rw mask_is (rw next_is refl))) (λ number. watch_fits 31 1000001 number 1000000)
 
 -- ---- how long it is
 

@@ -1,4 +1,5 @@
 -- The words behind a verb say what its form says.
+use Rattle.vfs_script.proofs.FormLemmas.{alone}
 use Rattle.vfs_script.proofs.forms.form_of.Goals as goal
 
 pub returns-in-Open : goal.returns-in-Open
@@ -54,3 +55,21 @@ returns-in-Turn c = rw c.in-Turn.is c.turn_form.ensures
 
 pub returns-in-Raw : goal.returns-in-Raw
 returns-in-Raw c = rw c.in-Raw.is c.raw_form.ensures
+
+pub returns-in-Close : goal.returns-in-Close
+returns-in-Close c = rw c.in-Close.is (alone _ c.args.fields c.plain_form.result c.plain_form.ensures)
+
+pub returns-in-Query : goal.returns-in-Query
+returns-in-Query c = rw c.in-Query.is (alone _ c.args.fields c.plain_form-in-Query.result c.plain_form-in-Query.ensures)
+
+pub returns-in-Sync : goal.returns-in-Sync
+returns-in-Sync c = rw c.in-Sync.is (alone _ c.args.fields c.plain_form-in-Sync.result c.plain_form-in-Sync.ensures)
+
+pub returns-in-Rewind : goal.returns-in-Rewind
+returns-in-Rewind c = rw c.in-Rewind.is (alone _ c.args.fields c.plain_form-in-Rewind.result c.plain_form-in-Rewind.ensures)
+
+pub returns-in-Token : goal.returns-in-Token
+returns-in-Token c = rw c.in-Token.is (alone _ c.args.fields c.plain_form-in-Token.result c.plain_form-in-Token.ensures)
+
+pub returns-in-Pick : goal.returns-in-Pick
+returns-in-Pick c = rw c.in-Pick.is (alone _ c.args.fields c.ended.result c.ended.ensures)

@@ -3,7 +3,7 @@ use Rattle.vfs_script.proofs.NumberLemmas.{so_far, so_far-start, so_far-more, so
 use Rattle.vfs_script.proofs.numbers.numbers.Goals as goal
 
 pub loop-piece-init : goal.loop-piece-init
-loop-piece-init c = so_far-start c.args.word.now ∙ (ap (so_far []) (sym c.new-pieces.ensures) ∙ ap (λ numbers. so_far numbers c.new-pieces.result) (sym c.new-numbers.ensures.items))
+loop-piece-init c = so_far-start c.args.word.now ∙ (ap (so_far []) (sym c.new-pieces.ensures.pieces) ∙ ap (λ numbers. so_far numbers c.new-pieces.result) (sym c.new-numbers.ensures.items))
 
 pub returns-in_default-short : goal.returns-in_default-short
 returns-in_default-short c =

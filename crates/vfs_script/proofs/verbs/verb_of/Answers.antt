@@ -1,25 +1,89 @@
-use Rattle.std.proofs.Common.{sym, ◌∙◌}
-use Rattle.vfs_script.proofs.LineLemmas.{verb_by_length, verb_of_no_length}
+-- The bytes of a word tell its verb.
+use Rattle.std.proofs.Common.{◌≡◌, codes, arith, rules, refl}
+use Rattle.std.proofs.lemmas.Slice.Eq.{text_from_reads}
+use Rattle.vfs_script.specs.Lines.{verb_of}
 use Rattle.vfs_script.proofs.verbs.verb_of.Goals as goal
 
-pub returns-then-len-eq3 : goal.returns-then-len-eq3
-returns-then-len-eq3 c = c.verb_of_three.ensures ∙ sym (verb_by_length c.args.word.now 3 c.if-len-eq3.true)
+pub returns-in-clone : goal.returns-in-clone
+unfolding verb_of
+returns-in-clone c =
+    let same : c.args.word.now ≡ codes "clone" = text_from_reads c.args.word.now (codes "clone") (omega arith) (search rules) in
+    rw same refl
 
-pub returns-then-len-eq4 : goal.returns-then-len-eq4
-returns-then-len-eq4 c = c.verb_of_four.ensures ∙ sym (verb_by_length c.args.word.now 4 c.if-len-eq4.true)
+pub returns-in-close : goal.returns-in-close
+unfolding verb_of
+returns-in-close c =
+    let same : c.args.word.now ≡ codes "close" = text_from_reads c.args.word.now (codes "close") (omega arith) (search rules) in
+    rw same refl
 
-pub returns-then-len-eq5 : goal.returns-then-len-eq5
-returns-then-len-eq5 c = c.verb_of_five.ensures ∙ sym (verb_by_length c.args.word.now 5 c.if-len-eq5.true)
+pub returns-in-query : goal.returns-in-query
+unfolding verb_of
+returns-in-query c =
+    let same : c.args.word.now ≡ codes "query" = text_from_reads c.args.word.now (codes "query") (omega arith) (search rules) in
+    rw same refl
 
-pub returns-then-len-eq6 : goal.returns-then-len-eq6
-returns-then-len-eq6 c = c.verb_of_six.ensures ∙ sym (verb_by_length c.args.word.now 6 c.if-len-eq6.true)
+pub returns-in-token : goal.returns-in-token
+unfolding verb_of
+returns-in-token c =
+    let same : c.args.word.now ≡ codes "token" = text_from_reads c.args.word.now (codes "token") (omega arith) (search rules) in
+    rw same refl
 
-pub returns-then-len-eq7 : goal.returns-then-len-eq7
-returns-then-len-eq7 c = c.verb_of_seven.ensures ∙ sym (verb_by_length c.args.word.now 7 c.if-len-eq7.true)
+pub returns-in-watch : goal.returns-in-watch
+unfolding verb_of
+returns-in-watch c =
+    let same : c.args.word.now ≡ codes "watch" = text_from_reads c.args.word.now (codes "watch") (omega arith) (search rules) in
+    rw same refl
 
-pub returns-then-len-eq10 : goal.returns-then-len-eq10
-returns-then-len-eq10 c = c.verb_of_ten.ensures ∙ sym (verb_by_length c.args.word.now 10 c.if-len-eq10.true)
+pub returns-in-write : goal.returns-in-write
+unfolding verb_of
+returns-in-write c =
+    let same : c.args.word.now ≡ codes "write" = text_from_reads c.args.word.now (codes "write") (omega arith) (search rules) in
+    rw same refl
 
-pub returns-else-len-eq10 : goal.returns-else-len-eq10
-returns-else-len-eq10 c =
-    sym (verb_of_no_length c.args.word.now c.if-len-eq3.false c.if-len-eq4.false c.if-len-eq5.false c.if-len-eq6.false c.if-len-eq7.false c.if-len-eq10.false)
+pub returns-in-rewind : goal.returns-in-rewind
+unfolding verb_of
+returns-in-rewind c =
+    let same : c.args.word.now ≡ codes "rewind" = text_from_reads c.args.word.now (codes "rewind") (omega arith) (search rules) in
+    rw same refl
+
+pub returns-in-rename : goal.returns-in-rename
+unfolding verb_of
+returns-in-rename c =
+    let same : c.args.word.now ≡ codes "rename" = text_from_reads c.args.word.now (codes "rename") (omega arith) (search rules) in
+    rw same refl
+
+pub returns-in-readat : goal.returns-in-readat
+unfolding verb_of
+returns-in-readat c =
+    let same : c.args.word.now ≡ codes "readat" = text_from_reads c.args.word.now (codes "readat") (omega arith) (search rules) in
+    rw same refl
+
+pub returns-in-resize : goal.returns-in-resize
+unfolding verb_of
+returns-in-resize c =
+    let same : c.args.word.now ≡ codes "resize" = text_from_reads c.args.word.now (codes "resize") (omega arith) (search rules) in
+    rw same refl
+
+pub returns-in-unlink : goal.returns-in-unlink
+unfolding verb_of
+returns-in-unlink c =
+    let same : c.args.word.now ≡ codes "unlink" = text_from_reads c.args.word.now (codes "unlink") (omega arith) (search rules) in
+    rw same refl
+
+pub returns-in-hangup : goal.returns-in-hangup
+unfolding verb_of
+returns-in-hangup c =
+    let same : c.args.word.now ≡ codes "hangup" = text_from_reads c.args.word.now (codes "hangup") (omega arith) (search rules) in
+    rw same refl
+
+pub returns-in-writeat : goal.returns-in-writeat
+unfolding verb_of
+returns-in-writeat c =
+    let same : c.args.word.now ≡ codes "writeat" = text_from_reads c.args.word.now (codes "writeat") (omega arith) (search rules) in
+    rw same refl
+
+pub returns-in-attributes : goal.returns-in-attributes
+unfolding verb_of
+returns-in-attributes c =
+    let same : c.args.word.now ≡ codes "attributes" = text_from_reads c.args.word.now (codes "attributes") (omega arith) (search rules) in
+    rw same refl

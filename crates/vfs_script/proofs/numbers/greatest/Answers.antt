@@ -1,9 +1,0 @@
-use Rattle.std.proofs.Common.{arith}
-use Rattle.vfs_script.proofs.NumberLemmas.{greatest_more}
-use Rattle.vfs_script.proofs.numbers.greatest.Goals as goal
-
-pub loop-i-preserved : goal.loop-i-preserved
-loop-i-preserved c = greatest_more c.args.bytes.now c.loop-i.i c.loop-i.greatest c.max-greatest.result (let is = c.max-greatest.ensures in omega (arith, is)) (let is = c.max-greatest.ensures in omega (arith, is)) c.loop-i.invariant
-
-pub returns : goal.returns
-returns c = λ k below. c.loop-i.invariant k (let over = c.loop-i-test.false in omega (arith, below, over))
