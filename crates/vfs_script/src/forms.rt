@@ -52,7 +52,7 @@ fn ended<'a>(parsed: Parsed<'a>, mut words: Pieces<'a>) -> Option<Parsed<'a>>
     requires { IsText parsed }
     ensures { Forms (ended words.entry (finished parsed.entry)) result }
 {
-    words.next().is_none().then_some(parsed)
+    words.next_short().is_none().then_some(parsed)
 }
 
 // A request without fields.
@@ -68,9 +68,9 @@ fn open_form<'a>(endpoint: u32, mut fields: Pieces<'a>) -> Option<Parsed<'a>>
     requires { AreTexts fields }
     ensures { Forms (behind Verb.Open endpoint fields.entry) result }
 {
-    let path = fields.next()?;
-    let flags = long(fields.next()?)?;
-    let object = short(fields.next()?)?;
+    let path = fields.next_short()?;
+    let flags = long(fields.next_short()?)?;
+    let object = short(fields.next_short()?)?;
     let request = Request::OpenPath {
         path,
         flags,
@@ -84,7 +84,7 @@ fn open_form<'a>(endpoint: u32, mut fields: Pieces<'a>) -> Option<Parsed<'a>>
 fn clone_form<'a>(endpoint: u32, mut fields: Pieces<'a>) -> Option<Parsed<'a>>
     ensures { Forms (behind Verb.Clone endpoint fields.entry) result }
 {
-    let request = short(fields.next()?)?;
+    let request = short(fields.next_short()?)?;
     ended(
         Parsed::Request(endpoint, Request::Clone { request }),
         fields,
@@ -95,7 +95,7 @@ fn clone_form<'a>(endpoint: u32, mut fields: Pieces<'a>) -> Option<Parsed<'a>>
 fn attributes_form<'a>(endpoint: u32, mut fields: Pieces<'a>) -> Option<Parsed<'a>>
     ensures { Forms (behind Verb.Attributes endpoint fields.entry) result }
 {
-    let query = long(fields.next()?)?;
+    let query = long(fields.next_short()?)?;
     let request = Request::GetAttributes { query };
     ended(Parsed::Request(endpoint, request), fields)
 }
@@ -104,7 +104,7 @@ fn attributes_form<'a>(endpoint: u32, mut fields: Pieces<'a>) -> Option<Parsed<'
 fn list_form<'a>(endpoint: u32, mut fields: Pieces<'a>) -> Option<Parsed<'a>>
     ensures { Forms (behind Verb.List endpoint fields.entry) result }
 {
-    let max_bytes = long(fields.next()?)?;
+    let max_bytes = long(fields.next_short()?)?;
     let request = Request::ReadDirents { max_bytes };
     ended(Parsed::Request(endpoint, request), fields)
 }
@@ -114,9 +114,9 @@ fn rename_form<'a>(endpoint: u32, mut fields: Pieces<'a>) -> Option<Parsed<'a>>
     requires { AreTexts fields }
     ensures { Forms (behind Verb.Rename endpoint fields.entry) result }
 {
-    let src = fields.next()?;
-    let token = short(fields.next()?)?;
-    let dst = fields.next()?;
+    let src = fields.next_short()?;
+    let token = short(fields.next_short()?)?;
+    let dst = fields.next_short()?;
     let request = Request::Rename { src, token, dst };
     ended(Parsed::Request(endpoint, request), fields)
 }
@@ -126,9 +126,9 @@ fn link_form<'a>(endpoint: u32, mut fields: Pieces<'a>) -> Option<Parsed<'a>>
     requires { AreTexts fields }
     ensures { Forms (behind Verb.Link endpoint fields.entry) result }
 {
-    let src = fields.next()?;
-    let token = short(fields.next()?)?;
-    let dst = fields.next()?;
+    let src = fields.next_short()?;
+    let token = short(fields.next_short()?)?;
+    let dst = fields.next_short()?;
     let request = Request::Link { src, token, dst };
     ended(Parsed::Request(endpoint, request), fields)
 }
@@ -138,8 +138,8 @@ fn unlink_form<'a>(endpoint: u32, mut fields: Pieces<'a>) -> Option<Parsed<'a>>
     requires { AreTexts fields }
     ensures { Forms (behind Verb.Unlink endpoint fields.entry) result }
 {
-    let name = fields.next()?;
-    let flags = long(fields.next()?)?;
+    let name = fields.next_short()?;
+    let flags = long(fields.next_short()?)?;
     let request = Request::Unlink { name, flags };
     ended(Parsed::Request(endpoint, request), fields)
 }
@@ -148,8 +148,8 @@ fn unlink_form<'a>(endpoint: u32, mut fields: Pieces<'a>) -> Option<Parsed<'a>>
 fn watch_form<'a>(endpoint: u32, mut fields: Pieces<'a>) -> Option<Parsed<'a>>
     ensures { Forms (behind Verb.Watch endpoint fields.entry) result }
 {
-    let mask = short(fields.next()?)?;
-    let watcher = short(fields.next()?)?;
+    let mask = short(fields.next_short()?)?;
+    let watcher = short(fields.next_short()?)?;
     let request = Request::Watch {
         mask,
         options: 0,
@@ -162,7 +162,7 @@ fn watch_form<'a>(endpoint: u32, mut fields: Pieces<'a>) -> Option<Parsed<'a>>
 fn read_form<'a>(endpoint: u32, mut fields: Pieces<'a>) -> Option<Parsed<'a>>
     ensures { Forms (behind Verb.Read endpoint fields.entry) result }
 {
-    let count = long(fields.next()?)?;
+    let count = long(fields.next_short()?)?;
     let request = Request::Read { count };
     ended(Parsed::Request(endpoint, request), fields)
 }
@@ -171,8 +171,8 @@ fn read_form<'a>(endpoint: u32, mut fields: Pieces<'a>) -> Option<Parsed<'a>>
 fn read_at_form<'a>(endpoint: u32, mut fields: Pieces<'a>) -> Option<Parsed<'a>>
     ensures { Forms (behind Verb.ReadAt endpoint fields.entry) result }
 {
-    let count = long(fields.next()?)?;
-    let offset = long(fields.next()?)?;
+    let count = long(fields.next_short()?)?;
+    let offset = long(fields.next_short()?)?;
     let request = Request::ReadAt { count, offset };
     ended(Parsed::Request(endpoint, request), fields)
 }
@@ -181,7 +181,7 @@ fn read_at_form<'a>(endpoint: u32, mut fields: Pieces<'a>) -> Option<Parsed<'a>>
 fn write_form<'a>(endpoint: u32, mut fields: Pieces<'a>) -> Option<Parsed<'a>>
     ensures { Forms (behind Verb.Write endpoint fields.entry) result }
 {
-    let hex = fields.next()?;
+    let hex = fields.next_short()?;
     ended(Parsed::Write { endpoint, hex }, fields)
 }
 
@@ -189,8 +189,8 @@ fn write_form<'a>(endpoint: u32, mut fields: Pieces<'a>) -> Option<Parsed<'a>>
 fn write_at_form<'a>(endpoint: u32, mut fields: Pieces<'a>) -> Option<Parsed<'a>>
     ensures { Forms (behind Verb.WriteAt endpoint fields.entry) result }
 {
-    let hex = fields.next()?;
-    let offset = long(fields.next()?)?;
+    let hex = fields.next_short()?;
+    let offset = long(fields.next_short()?)?;
     let parsed = Parsed::WriteAt {
         endpoint,
         offset,
@@ -203,8 +203,8 @@ fn write_at_form<'a>(endpoint: u32, mut fields: Pieces<'a>) -> Option<Parsed<'a>
 fn seek_form<'a>(endpoint: u32, mut fields: Pieces<'a>) -> Option<Parsed<'a>>
     ensures { Forms (behind Verb.Seek endpoint fields.entry) result }
 {
-    let origin = short(fields.next()?)?;
-    let offset = signed(fields.next()?)?;
+    let origin = short(fields.next_short()?)?;
+    let offset = signed(fields.next_short()?)?;
     let request = Request::Seek { origin, offset };
     ended(Parsed::Request(endpoint, request), fields)
 }
@@ -213,7 +213,7 @@ fn seek_form<'a>(endpoint: u32, mut fields: Pieces<'a>) -> Option<Parsed<'a>>
 fn resize_form<'a>(endpoint: u32, mut fields: Pieces<'a>) -> Option<Parsed<'a>>
     ensures { Forms (behind Verb.Resize endpoint fields.entry) result }
 {
-    let length = long(fields.next()?)?;
+    let length = long(fields.next_short()?)?;
     let request = Request::Resize { length };
     ended(Parsed::Request(endpoint, request), fields)
 }
@@ -222,7 +222,7 @@ fn resize_form<'a>(endpoint: u32, mut fields: Pieces<'a>) -> Option<Parsed<'a>>
 fn echo_form<'a>(endpoint: u32, mut fields: Pieces<'a>) -> Option<Parsed<'a>>
     ensures { Forms (behind Verb.Echo endpoint fields.entry) result }
 {
-    let hex = fields.next()?;
+    let hex = fields.next_short()?;
     ended(Parsed::Echo { endpoint, hex }, fields)
 }
 
@@ -237,7 +237,7 @@ fn hang_up_form<'a>(endpoint: u32, fields: Pieces<'a>) -> Option<Parsed<'a>>
 fn turn_form<'a>(endpoint: u32, mut fields: Pieces<'a>) -> Option<Parsed<'a>>
     ensures { Forms (behind Verb.Turn endpoint fields.entry) result }
 {
-    let count = short(fields.next()?)?;
+    let count = short(fields.next_short()?)?;
     let parsed = Parsed::Turn {
         server: endpoint,
         count,
@@ -249,8 +249,8 @@ fn turn_form<'a>(endpoint: u32, mut fields: Pieces<'a>) -> Option<Parsed<'a>>
 fn raw_form<'a>(endpoint: u32, mut fields: Pieces<'a>) -> Option<Parsed<'a>>
     ensures { Forms (behind Verb.Raw endpoint fields.entry) result }
 {
-    let handles = fields.next()?;
-    let hex = fields.next()?;
+    let handles = fields.next_short()?;
+    let hex = fields.next_short()?;
     let parsed = Parsed::Raw {
         endpoint,
         handles,
@@ -298,7 +298,7 @@ pub(crate) fn line_of(line: &[u8]) -> Option<Parsed<'_>>
     ensures { Forms (line_of line.now) result }
 {
     let mut words = Pieces::new(b' ', line);
-    let verb = verb_of(words.next()?)?;
-    let endpoint = short(words.next()?)?;
+    let verb = verb_of(words.next_short()?)?;
+    let endpoint = short(words.next_short()?)?;
     form_of(verb, endpoint, words)
 }

@@ -189,7 +189,7 @@ fn numbers(alloc: Global, word: &[u8]) -> Result<Option<Vec<u32>>, NoMemory>
 {
     let mut numbers = Vec::new(alloc);
     let mut pieces = Pieces::new(b',', word);
-    while let Some(piece) = pieces.next() {
+    while let Some(piece) = pieces.next_short() {
         let Some(number) = short(piece) else {
             return Ok(None);
         };

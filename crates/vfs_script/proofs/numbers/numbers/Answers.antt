@@ -10,14 +10,14 @@ returns-in_default-short c =
     sym
     (c.loop-piece.invariant
     ∙ (ap (so_far c.loop-piece.numbers.items) c.in-Some.ensures.piece
-    ∙ so_far-bad c.loop-piece.numbers.items c.in-Some.piece.now c.next.new.self (sym c.short.ensures ∙ c.in_default-short.is)))
+    ∙ so_far-bad c.loop-piece.numbers.items c.in-Some.piece.now c.next_short.new.self (sym c.short.ensures ∙ c.in_default-short.is)))
 
 pub loop-piece-preserved : goal.loop-piece-preserved
 loop-piece-preserved c =
     c.loop-piece.invariant
     ∙ (ap (so_far c.loop-piece.numbers.items) c.in-Some.ensures.piece
-    ∙ (so_far-more c.loop-piece.numbers.items c.in-Some.piece.now c.next.new.self c.in-Some-short.number (sym c.short.ensures ∙ c.in-Some-short.is)
-    ∙ ap (λ numbers. so_far numbers c.next.new.self) (sym c.in_ok-push.ensures.items)))
+    ∙ (so_far-more c.loop-piece.numbers.items c.in-Some.piece.now c.next_short.new.self c.in-Some-short.number (sym c.short.ensures ∙ c.in-Some-short.is)
+    ∙ ap (λ numbers. so_far numbers c.next_short.new.self) (sym c.in_ok-push.ensures.items)))
 
 pub returns : goal.returns
 returns c =
