@@ -32,7 +32,7 @@ some_mapped (Some pair) = refl
 
 -- ---- what is chosen
 
-on_endpoint : (view : View) (endpoint : ℕ) (sent : Sent) → first_on view endpoint ≡ Some sent → sent.endpoint ≡ endpoint
+pub on_endpoint : (view : View) (endpoint : ℕ) (sent : Sent) → first_on view endpoint ≡ Some sent → sent.endpoint ≡ endpoint
 on_endpoint view endpoint sent e =
     eqb-true sent.endpoint endpoint (found (λ (one : Sent). one.endpoint == endpoint) view.waiting sent (sym (first_of_kept (λ (one : Sent). one.endpoint == endpoint) view.waiting) ∙ e)).1
 

@@ -1,5 +1,7 @@
 -- Servings by their steps, one after another, lead to the journals that the definitions of a session have behind them.
-use Rattle.std.proofs.Common.{◌≡◌, ℕ, zero, suc, ◌+◌, ◌-◌, ◌<◌, Bool, if◌then◌else◌, IsSome, List, [], Option, Some, None, refl, sym, ap, ◌∙◌, subst, arith}
+use Rattle.std.proofs.Common.{◌≡◌, ℕ, zero, suc, ◌+◌, ◌-◌, ◌<◌, ◌≤◌, Bool, if◌then◌else◌, IsSome, List, [], Option, Some, None, refl, sym, ap, ◌∙◌, subst, arith}
+use Rattle.std.specs.Option.{option_map}
+use Rattle.std.specs.Prelude.{MatchOption}
 use Rattle.std.proofs.lemmas.Bool.{true≢false}
 use Rattle.std.proofs.lemmas.Option.{none-some}
 use Rattle.fidl_wire.specs.Names.{AreDistinct}
@@ -7,25 +9,26 @@ use Rattle.vfs_journal.specs.Entries.{Journal, Sent}
 use Rattle.vfs_journal.specs.Fit.{IsFit}
 use Rattle.vfs_journal.specs.History.{History, waiting}
 use Rattle.vfs_journal.specs.Past.{history_of}
-use Rattle.vfs_journal.specs.Session.{after_serving, drained, head, next, oldest, picked, serving, turned}
+use Rattle.vfs_journal.specs.Session.{after_serving, drained, head, next, oldest, picked, serving, turned, weight}
 use Rattle.vfs_journal.specs.Starts.{Start}
 use Rattle.vfs_journal.specs.View.{is_bound_in}
 use Rattle.journal_laws.specs.Choosing.{first_on}
 use Rattle.journal_laws.specs.Viewing.{view_behind}
 use Rattle.journal_laws.proofs.Below.{below}
-use Rattle.journal_laws.proofs.Draining.{drains_serve_all}
+use Rattle.journal_laws.proofs.Draining.{drains_serve_all, servings_lower_the_weight}
 use Rattle.journal_laws.proofs.Fits.{views_fit}
 use Rattle.journal_laws.proofs.LeastPlaces.{chosen_by_place}
 use Rattle.journal_laws.proofs.ViewParts.{head_is_in, next_is, oldest_is}
-use Rattle.message_queues.specs.Oldest.{IsBound, IsBoundAt, NothingWaits}
+use Rattle.message_queues.specs.Oldest.{IsBound, IsBoundAt, IsOldest, NothingWaits}
 use Rattle.message_queues.specs.Queues.{Queues, IsReady, head_of, server_of}
+use Rattle.vfs_world.specs.Running.{IsRunning}
 use Rattle.vfs_world.specs.Servings.{IsDrain, IsOldestAt, IsOldestOfAll, IsPick, IsSame, IsTurn, ServesOne, ServesTimes, served_in}
 use Rattle.vfs_world.specs.World.{LeadsTo, StandsFor, World}
 use Rattle.vfs_world.proofs.Chosen as chosen
 use Rattle.vfs_world.proofs.Counted.{one_more_served}
 use Rattle.vfs_world.proofs.HeadServed.{head_served}
 use Rattle.vfs_world.proofs.OneServed.{IsReadyIn, ready_in}
-use Rattle.vfs_world.proofs.Times.{Drains, Goes, drain_begins, drain_ends, drain_on, goes_ended, goes_first, goes_on, goes_whole, pick_none, pick_some, serving_over, serving_some}
+use Rattle.vfs_world.proofs.Times.{Drains, Goes, drain_begins, drain_ends, drain_on, goes_ended, goes_first, goes_on, goes_whole, pick_none, pick_some, serving_over, serving_some, serving_zero}
 
 -- ---- one serving
 
@@ -66,6 +69,34 @@ none_left : AreDistinct → (start : Start) (journal : Journal) (world : World) 
 none_left apart start journal world s none =
     next_is start (history_of start journal)
     ∙ chosen.none_next (view_behind start journal) world.queues (fit_of apart start journal world s) s.holds.queues none
+
+-- ---- who is served next, as the queues tell it
+
+-- on which endpoint an entry was sent
+abbrev pub end_of : Option Sent → Option ℕ
+end_of chosen = option_map (λ sent. sent.endpoint) chosen
+
+-- the first entry of an endpoint was sent on it
+sent_there : (start : Start) (journal : Journal) (world : World) (endpoint : ℕ) (sent : Sent) → StandsFor start world journal → head_of world.queues endpoint ≡ Some sent → sent.endpoint ≡ endpoint
+sent_there start journal world endpoint sent s waits =
+    chosen.on_endpoint (view_behind start journal) endpoint sent (sym (chosen.head_is (view_behind start journal) world.queues endpoint s.holds.queues) ∙ waits)
+
+told_by : (start : Start) (Chosen : Queues → ℕ → Type 0) (choice : History → Option Sent) → AreAlike start Chosen choice → (journal : Journal) (world : World) (endpoint : ℕ) (sent : Sent) → StandsFor start world journal →
+    Chosen world.queues endpoint → head_of world.queues endpoint ≡ Some sent → Some endpoint ≡ end_of (choice (history_of start journal))
+told_by start Chosen choice alike journal world endpoint sent s is waits =
+    sym (ap end_of (alike journal world endpoint sent s is waits) ∙ ap (λ (n : ℕ). Some n) (sent_there start journal world endpoint sent s waits))
+
+pub next_told : AreDistinct → (start : Start) (journal : Journal) (world : World) (told : Option ℕ) → StandsFor start world journal →
+    MatchOption told (NothingWaits world.queues (IsBound world.queues)) (IsOldest world.queues (IsBound world.queues)) → told ≡ end_of (next start (history_of start journal))
+next_told apart start journal world None s none = sym (ap end_of (none_left apart start journal world s none))
+next_told apart start journal world (Some endpoint) s oldest =
+    told_by start IsOldestOfAll (next start) (next_alike apart start) journal world endpoint oldest.sent s oldest oldest.waits
+
+pub oldest_told : AreDistinct → (start : Start) (journal : Journal) (world : World) (server : ℕ) (told : Option ℕ) → StandsFor start world journal →
+    MatchOption told (NothingWaits world.queues (IsBoundAt world.queues server)) (IsOldest world.queues (IsBoundAt world.queues server)) → told ≡ end_of (oldest start (history_of start journal) server)
+oldest_told apart start journal world server None s none = sym (ap end_of (none_at apart start journal world server s none))
+oldest_told apart start journal world server (Some endpoint) s old =
+    told_by start (IsOldestAt server) (λ history. oldest start history server) (oldest_alike apart start server) journal world endpoint old.sent s old old.waits
 
 -- ---- a Turn
 
@@ -209,6 +240,34 @@ pick_leads apart start journal endpoint old new before after s pick = by_case (r
   by_case (ready server sent a b) = picks_one (pick.served (subst IsSome (sym a) refl, subst IsSome (sym b) refl))
   by_case (unbound a) = nothing (λ r. true≢false (sym (subst IsSome a r.0)))
   by_case (empty b) = nothing (λ r. true≢false (sym (subst IsSome b r.1)))
+
+-- what was served, where something could be
+pub one_picked : (endpoint : ℕ) (old new : World) (before after : List ℕ) → IsPick endpoint old new before after → (¬ (IsReady old.queues endpoint) → ⊥) → ServesOne (λ n. n ≡ endpoint) old new before after
+one_picked endpoint old new before after pick some = by_case (ready_or_not old.queues endpoint) where
+  by_case : IsReadyOrNot old.queues endpoint → ServesOne (λ n. n ≡ endpoint) old new before after
+  by_case (ready server sent a b) = pick.served (subst IsSome (sym a) refl, subst IsSome (sym b) refl)
+  by_case (unbound a) = absurd (some (λ r. true≢false (sym (subst IsSome a r.0))))
+  by_case (empty b) = absurd (some (λ r. true≢false (sym (subst IsSome b r.1))))
+
+-- that lowers the weight
+pub pick_lowers : AreDistinct → (start : Start) (journal : Journal) (endpoint : ℕ) (old new : World) (before after : List ℕ) → StandsFor start old journal → ServesOne (λ n. n ≡ endpoint) old new before after →
+    weight (history_of start (picked start endpoint journal)) < weight (history_of start journal)
+pick_lowers apart start journal endpoint old new before after s one =
+    let first : head start (history_of start journal) one.endpoint ≡ Some one.sent = head_ready start journal old one.endpoint one.server one.sent s one.bound one.waits in
+    let here : head start (history_of start journal) endpoint ≡ Some one.sent = ap (head start (history_of start journal)) (sym one.one_of) ∙ first in
+    let same : picked start endpoint journal ≡ after_serving start journal one.sent =
+    serving_some 0 start (λ history. head start history endpoint) journal one.sent here ∙ serving_zero start (λ history. head start history endpoint) (after_serving start journal one.sent) in
+    subst (λ (j : Journal). weight (history_of start j) < weight (history_of start journal)) (sym same)
+    (servings_lower_the_weight (below apart) start journal one.sent s.sound s.lawful
+    (ap (head start (history_of start journal)) (sent_there start journal old one.endpoint one.sent s one.waits) ∙ first))
+
+-- and takes places, of which there are so many
+pub pick_places : (endpoint most : ℕ) (old new : World) (before after : List ℕ) → ServesOne (λ n. n ≡ endpoint) old new before after → IsRunning most new → (old.places < new.places) × (new.places ≤ most)
+pick_places endpoint most old new before after one running =
+    let taken = one.served.places in
+    let here = running.stands.holds.places in
+    let few = running.few in
+    (omega arith, omega arith)
 
 -- ---- a drain
 

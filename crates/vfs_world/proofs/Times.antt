@@ -38,7 +38,7 @@ pub serving_some : (more : ℕ) (start : Start) (choice : History → Option Sen
 unfolding serving
 serving_some more start choice journal sent some = ap (serving_one (serving more start choice) (after_serving start journal) journal) some
 
-serving_zero : (start : Start) (choice : History → Option Sent) (journal : Journal) → serving 0 start choice journal ≡ journal
+pub serving_zero : (start : Start) (choice : History → Option Sent) (journal : Journal) → serving 0 start choice journal ≡ journal
 unfolding serving
 serving_zero start choice journal = refl
 

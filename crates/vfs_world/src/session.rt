@@ -5,18 +5,20 @@ mod heads;
 mod reading;
 mod serving;
 
-ghost use Rattle.std.specs.Prelude.{◌≡◌, ◌≤◌, ◌<◌, ◌+◌, ℕ, false};
+ghost use Rattle.std.specs.Prelude.{◌≡◌, ◌≤◌, ◌<◌, ◌+◌, ℕ, false, MatchOption};
 ghost use Rattle.fidl_names.specs.declared.limits.TheConstants as limit;
+ghost use Rattle.link_admission.specs.Standings.{standing_of};
 ghost use Rattle.vfs_journal.specs.Entries.{Journal};
 ghost use Rattle.vfs_journal.specs.Starts.{Start};
 ghost use Rattle.journal_laws.specs.Viewing.{view_behind};
+ghost use Rattle.message_queues.specs.Oldest.{IsBound, IsBoundAt, IsOldest, NothingWaits};
 ghost use Rattle.message_queues.specs.Queues.{count};
 ghost use Rattle.vfs_server.specs.KeptNodes.{kept_in};
 ghost use Rattle.vfs_world.specs.Running.{IsRunning, whole};
 ghost use Rattle.vfs_world.specs.World.{StandsFor};
 
 use fidl_wire::{Ordinals, Out};
-use link_admission::Endpoints;
+use link_admission::{Endpoints, Standing};
 use message_queues::Queues;
 use std::alloc::Global;
 use vfs_server::Server;
@@ -100,6 +102,27 @@ impl Session {
         ensures { (start : Start) (journal : Journal) → StandsFor start (whole self.now) journal → result ≡ kept_in (view_behind start journal) server }
     {
         self.servers[server as usize].kept() as u32
+    }
+
+    /// Of all endpoints that are bound, the one whose first entry is the oldest.
+    pub(crate) fn next(&self) -> Option<u32>
+        ensures { MatchOption result (NothingWaits self.now.queues (IsBound self.now.queues)) (IsOldest self.now.queues (IsBound self.now.queues)) }
+    {
+        self.queues.next()
+    }
+
+    /// Of the endpoints that are bound at a server, the one whose first entry is the oldest.
+    pub(crate) fn oldest(&self, server: u32) -> Option<u32>
+        ensures { MatchOption result (NothingWaits self.now.queues (IsBoundAt self.now.queues server)) (IsOldest self.now.queues (IsBoundAt self.now.queues server)) }
+    {
+        self.queues.oldest(server)
+    }
+
+    /// How an endpoint stands.
+    pub(crate) fn standing(&self, endpoint: u32) -> Standing
+        ensures { result ≡ standing_of self.now.endpoints endpoint }
+    {
+        self.endpoints.standing(endpoint)
     }
 
     /// How many entries wait.

@@ -1,13 +1,15 @@
-ghost use Rattle.std.specs.Prelude.{◌≡◌, ◌<◌, ◌+◌, true, false, [], None, IfOk, OnOk, Ok, is_ok, if◌then◌else◌, length, take};
+ghost use Rattle.std.specs.Prelude.{◌≡◌, ◌<◌, ◌≤◌, ◌+◌, true, false, [], None, IfOk, OnOk, Ok, is_ok, if◌then◌else◌, length, take};
+ghost use Rattle.std.specs.Option.{option_map};
 ghost use Rattle.fidl_names.specs.declared.limits.TheConstants as limit;
+ghost use Rattle.link_admission.specs.Standings.{standing_of as known_standing};
 ghost use Rattle.link_frames.specs.Frames.{IsFrame};
 ghost use Rattle.link_frames.specs.declared.kinds.Side.TheVariants as side;
 ghost use Rattle.link_frames.specs.Views.{frame_of};
 ghost use Rattle.session_start.specs.Accepted.{AreAccepted, HasFilesOfBytes};
 ghost use Rattle.vfs_journal.specs.Entries.{Journal};
-ghost use Rattle.vfs_journal.specs.History.{waiting};
+ghost use Rattle.vfs_journal.specs.History.{standing_of, waiting};
 ghost use Rattle.vfs_journal.specs.Past.{history_of};
-ghost use Rattle.vfs_journal.specs.Session.{arrives, drained, head, oldest, picked, steps, turned};
+ghost use Rattle.vfs_journal.specs.Session.{arrives, drained, head, next, oldest, picked, steps, turned, weight};
 ghost use Rattle.vfs_journal.specs.Starts.{Start, start_of};
 ghost use Rattle.journal_laws.specs.Viewing.{view_behind};
 ghost use Rattle.message_queues.specs.Queues.{count};
@@ -21,6 +23,7 @@ use crate::beginning::begin;
 use crate::session::Session;
 use fidl_names::NoMemory;
 use fidl_wire::Ordinals;
+use link_admission::Standing;
 use link_frames::{FrameView, Mode, Outbox};
 use std::alloc::Global;
 use std::marker::Model;
@@ -159,13 +162,17 @@ impl World {
     }
 
     /// Serves the first entry of an endpoint, or tells that nothing of it can be served: it isn't bound, or
-    /// nothing waits on it.
+    /// nothing waits on it. Each that serves lowers the weight of what waits, and takes places of the journal, of
+    /// which there are so many: so an end comes to serving one after another.
     pub fn pick(&mut self, endpoint: u32, outbox: &mut Outbox) -> Result<Picked, WorldFault>
         ensures picked { (start : Start) (journal : Journal) → StandsFor start self.old journal →
             OnOk result (LeadsTo start (picked start endpoint journal) self.new journal outbox.old outbox.new) }
         ensures keeps { KeepsOn result self.old (λ start. picked start endpoint) }
         ensures idle { (start : Start) (journal : Journal) → StandsFor start self.old journal → head start (history_of start journal) endpoint ≡ None → result ≡ Ok Picked.Idle }
         ensures only_idle { (start : Start) (journal : Journal) → StandsFor start self.old journal → result ≡ Ok Picked.Idle → head start (history_of start journal) endpoint ≡ None }
+        ensures lowers { (start : Start) (journal : Journal) → StandsFor start self.old journal → result ≡ Ok Picked.Served →
+            weight (history_of start (picked start endpoint journal)) < weight (history_of start journal) }
+        ensures places { result ≡ Ok Picked.Served → (self.old.places < self.new.places) × (self.new.places ≤ limit.MAX_PLACES) }
         ensures frames { self.new.frames ≡ self.old.frames }
         ensures conduct { Conducts result self.old self.new outbox.old outbox.new }
     {
@@ -198,6 +205,37 @@ impl World {
             return Err(take_back(begun, outbox, &mut self.spent));
         }
         Ok(())
+    }
+
+    /// On which endpoint the entry waits that is served next: the oldest of all that can be served, if there is
+    /// one. A spent world tells none.
+    pub fn next(&self) -> Option<u32>
+        ensures next { (start : Start) (journal : Journal) → StandsFor start self.now journal → result ≡ option_map (λ sent. sent.endpoint) (next start (history_of start journal)) }
+        ensures spent { self.now.spent ≡ true → result ≡ None }
+    {
+        if self.spent {
+            return None;
+        }
+        self.session.next()
+    }
+
+    /// The same of those that wait on the endpoints of a server: none, too, where no server has that number.
+    pub fn oldest(&self, server: u32) -> Option<u32>
+        ensures oldest { (start : Start) (journal : Journal) → StandsFor start self.now journal → result ≡ option_map (λ sent. sent.endpoint) (oldest start (history_of start journal) server) }
+        ensures spent { self.now.spent ≡ true → result ≡ None }
+    {
+        if self.spent {
+            return None;
+        }
+        self.session.oldest(server)
+    }
+
+    /// How an endpoint stands.
+    pub fn standing(&self, endpoint: u32) -> Standing
+        ensures known { result ≡ known_standing self.now.known endpoint }
+        ensures standing { (start : Start) (journal : Journal) → StandsFor start self.now journal → result ≡ standing_of start (history_of start journal) endpoint }
+    {
+        self.session.standing(endpoint)
     }
 
     /// How many servers there are.

@@ -1,6 +1,11 @@
-use Rattle.std.proofs.Common.{Ok, ap, ◌∙◌, sym}
+use Rattle.std.proofs.Common.{◌≡◌, Ok, Result, ap, arith, ◌∙◌, sym}
 use Rattle.vfs_world.specs.Running.{whole}
-use Rattle.vfs_world.proofs.Serves.{head_none, pick_idle, pick_leads}
+use Rattle.vfs_world.specs.World.{World}
+use Rattle.vfs_world.specs.declared.world.Picked.{Picked}
+use Rattle.vfs_world.specs.declared.world.WorldFault.{WorldFault}
+use Rattle.fidl_names.specs.declared.limits.TheConstants as limit
+use Rattle.vfs_world.specs.declared.world.Picked.TheVariants as picked
+use Rattle.vfs_world.proofs.Serves.{head_none, one_picked, pick_idle, pick_leads, pick_lowers, pick_places}
 use Rattle.vfs_world.proofs.CallResults.{not_err, same_ok}
 use Rattle.vfs_world.proofs.Conduct.{done, wanting}
 use Rattle.vfs_world.proofs.Worlds.{able_of, keeps_laws, leads_inside, runs_inside, stands_inside, taken_back}
@@ -50,3 +55,28 @@ returns-in-Ok-clause-keeps c =
     let apart = (runs_inside c.self.inside c.self.view_is c.self.invariant stands.able).apart in
     keeps_laws apart
     (pick_leads apart start journal c.args.endpoint (whole c.self.inside.session) (whole c.pick.new.self) c.args.outbox.now c.pick.new.outbox (stands_inside c.self.inside c.self.view_is start journal stands) c.in-Ok.ensures.picked)
+
+-- what was told of as served wasn't idle
+not_idle : (told : Picked) → ◌≡◌ {A = Result Picked WorldFault} (Ok told) (Ok picked.Served) → told ≡ picked.Idle → ⊥
+not_idle picked.Served is idle = cc
+not_idle picked.Idle is idle = cc
+
+pub returns-in-Ok-clause-lowers : goal.returns-in-Ok-clause-lowers
+returns-in-Ok-clause-lowers c =
+    λ start journal stands is.
+    pick_lowers (runs_inside c.self.inside c.self.view_is c.self.invariant stands.able).apart start journal c.args.endpoint (whole c.self.inside.session) (whole c.pick.new.self) c.args.outbox.now c.pick.new.outbox
+    (stands_inside c.self.inside c.self.view_is start journal stands)
+    (one_picked c.args.endpoint (whole c.self.inside.session) (whole c.pick.new.self) c.args.outbox.now c.pick.new.outbox c.in-Ok.ensures.picked
+    (λ idle. not_idle c.told.result is (c.told.ensures.idle (same_ok _ _ (c.in-Ok.ensures.idle idle)))))
+
+pub returns-in-Ok-clause-places : goal.returns-in-Ok-clause-places
+returns-in-Ok-clause-places c =
+    λ is.
+    let able = able_of c.self.inside c.self.view_is c.if-self.false in
+    let same = ap (λ (w : World). w.places) c.self.view_is in
+    let runs = runs_inside c.self.inside c.self.view_is c.self.invariant able in
+    let more = pick_places c.args.endpoint limit.MAX_PLACES (whole c.self.inside.session) (whole c.pick.new.self) c.args.outbox.now c.pick.new.outbox
+    (one_picked c.args.endpoint (whole c.self.inside.session) (whole c.pick.new.self) c.args.outbox.now c.pick.new.outbox c.in-Ok.ensures.picked
+    (λ idle. not_idle c.told.result is (c.told.ensures.idle (same_ok _ _ (c.in-Ok.ensures.idle idle)))))
+    (c.in-Ok.ensures.running limit.MAX_PLACES runs) in
+    (omega (arith, same, more.0), more.1)
