@@ -70,25 +70,7 @@ open_few below path false e = path_few path (names_of path) (below.sound path (n
 
 read_few : Below → (r : Read) → names_read r ≤ 2048
 read_few below (Ok (txid, asks.open_path path flags attributes object)) = open_few below path (is_some (path_fault path)) refl
-read_few below (Ok (txid, asks.clone endpoint)) = omega arith
-read_few below (Ok (txid, asks.close)) = omega arith
-read_few below (Ok (txid, asks.query)) = omega arith
-read_few below (Ok (txid, asks.get_attributes bits)) = omega arith
-read_few below (Ok (txid, asks.sync)) = omega arith
-read_few below (Ok (txid, asks.read_dirents most)) = omega arith
-read_few below (Ok (txid, asks.rewind)) = omega arith
-read_few below (Ok (txid, asks.get_token)) = omega arith
-read_few below (Ok (txid, asks.rename src token dst)) = omega arith
-read_few below (Ok (txid, asks.link src token dst)) = omega arith
-read_few below (Ok (txid, asks.unlink name flags)) = omega arith
-read_few below (Ok (txid, asks.watch mask options watcher)) = omega arith
-read_few below (Ok (txid, asks.read count)) = omega arith
-read_few below (Ok (txid, asks.read_at count offset)) = omega arith
-read_few below (Ok (txid, asks.write bytes)) = omega arith
-read_few below (Ok (txid, asks.write_at bytes offset)) = omega arith
-read_few below (Ok (txid, asks.seek origin offset)) = omega arith
-read_few below (Ok (txid, asks.resize size)) = omega arith
-read_few below (Ok (txid, asks.echo_string value)) = omega arith
+read_few below (Ok (txid, _)) = omega arith
 read_few below (Err fault) = omega arith
 
 pub few_left : Below → (sending : Sending) → names_left sending ≤ 2048
