@@ -75,11 +75,14 @@ impl Mirror {
     /// other frames say nothing. Only a message on the endpoint may have a fault, and behind one the copy is as it was.
     pub fn take(&mut self, frame: FrameView<'_>) -> Result<(), MirrorFault>
         ensures endpoint { self.new.endpoint ≡ self.old.endpoint }
-        ensures taken { (frames : List Frame) → Mirrors self.old frames → OnOk result (Mirrors self.new (frames ++ frame_of frame.entry ∷ [])) }
+        ensures taken { (frames : List Frame) → Mirrors self.old frames →
+            OnOk result (Mirrors self.new (frames ++ frame_of frame.entry ∷ [])) }
         ensures heard { is_message_on self.old.endpoint (frame_of frame.entry) ≡ false → IsOk result }
-        ensures others { is_message_on self.old.endpoint (frame_of frame.entry) ≡ false → self.new ≡ behind_other self.old (frame_of frame.entry) }
+        ensures others { is_message_on self.old.endpoint (frame_of frame.entry) ≡ false →
+            self.new ≡ behind_other self.old (frame_of frame.entry) }
         ensures good { OnOk result (HasGoodEvents self.old.endpoint (frame_of frame.entry)) }
         ensures bad { result ≡ Err fault.BadEvents → HasBadEvents self.old.endpoint (frame_of frame.entry) }
+        ensures told { HasBadEvents self.old.endpoint (frame_of frame.entry) → result ≡ Err fault.BadEvents }
         ensures unchanged { OnErr result (self.new ≡ self.old) }
     {
         if frame.endpoint != self.endpoint {
@@ -101,6 +104,7 @@ impl Mirror {
         ensures taken { (events : List Event) → AreGood bytes.now events → OnOk result (TakesEvents self.old events self.new) }
         ensures good { OnOk result ((events : List Event) × AreGood bytes.now events) }
         ensures bad { result ≡ Err fault.BadEvents → (events : List Event) → AreGood bytes.now events → ⊥ }
+        ensures told { ((events : List Event) → AreGood bytes.now events → ⊥) → result ≡ Err fault.BadEvents }
         ensures unchanged { OnErr result (self.new ≡ self.old) }
     {
         let Some(deleted) = read_message(bytes) else {
