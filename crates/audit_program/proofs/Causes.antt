@@ -1,9 +1,8 @@
 -- The causes that stop `audit` are those that stop `vfs`, under its own statuses.
-use Rattle.std.proofs.Common.{◌≤◌, ℕ, List, arith, subst}
-use Rattle.host_io.specs.Causes.{Rose}
-use Rattle.host_io.specs.Told.{IsLongerThan, Told}
-use Rattle.run_status.specs.FileCauses.{HasNoFile, HasNoStart, LacksFile, LacksStart}
-use Rattle.run_status.specs.Files.{IsWithin, StillTold}
+use Rattle.std.proofs.Common.{ℕ, List}
+use Rattle.run_status.proofs.FoundFiles.{still_lacks}
+use Rattle.run_status.specs.FileCauses.{HasNoFile, HasNoStart, LacksFile, LacksStart, fault_in as fault_there}
+use Rattle.run_status.specs.Files.{StillTold}
 use Rattle.run_status.specs.Causes.{Collides as CollidesThere}
 use Rattle.run_status.specs.Outside.{FilesTold, SinkTold}
 use Rattle.run_status.specs.declared.statuses.Status.{Status}
@@ -47,29 +46,25 @@ lacks_start_as tree before after other.NoMemory a = a
 lacks_start_as tree before after (other.BadFrame at why) a = absurd a
 lacks_start_as tree before after (other.Truncated at) a = absurd a
 
--- a file that is read behind another
-rose_far : (before mid after : ℕ) → before ≤ mid → Rose mid after → Rose before after
-rose_far before mid after late rose = omega (arith, late, rose)
+file_as : (most : ℕ) (name : List ℕ) (before after : FilesTold) (there : Status) → HasNoFile most name before after there → LacksFile fault_in most name before after (status_as there)
+file_as most name before after other.Done a = absurd a
+file_as most name before after other.Usage a = absurd a
+file_as most name before after (other.TreeRefused rule item) a = absurd a
+file_as most name before after (other.ScriptRefused line) a = absurd a
+file_as most name before after other.ReadFault a = absurd a
+file_as most name before after other.WriteFault a = absurd a
+file_as most name before after other.FileFault a = a
+file_as most name before after other.FileTooLarge a = a
+file_as most name before after other.InputTooLong a = absurd a
+file_as most name before after (other.Collision first second) a = absurd a
+file_as most name before after other.NoMemory a = a
+file_as most name before after (other.BadFrame at why) a = absurd a
+file_as most name before after (other.Truncated at) a = absurd a
 
+-- a file that is read behind another
 pub lacks_file_as : (most : ℕ) (name : List ℕ) (before mid after : FilesTold) (there : Status) → StillTold before mid → HasNoFile most name mid after there
     → LacksFile fault_in most name before after (status_as there)
-lacks_file_as most name before mid after other.Done still a = absurd a
-lacks_file_as most name before mid after other.Usage still a = absurd a
-lacks_file_as most name before mid after (other.TreeRefused rule item) still a = absurd a
-lacks_file_as most name before mid after (other.ScriptRefused line) still a = absurd a
-lacks_file_as most name before mid after other.ReadFault still a = absurd a
-lacks_file_as most name before mid after other.WriteFault still a = absurd a
-lacks_file_as most name before mid after other.FileFault still a = rose_far (before.faults name) (mid.faults name) (after.faults name) (still.faults name) a
-lacks_file_as most name before mid after other.FileTooLarge still a = (rose_far (before.overlong name) (mid.overlong name) (after.overlong name) (still.overlong name) a.0, subst (IsLongerThan most) (still.told name) a.1)
-lacks_file_as most name before mid after other.InputTooLong still a = absurd a
-lacks_file_as most name before mid after (other.Collision first second) still a = absurd a
-lacks_file_as most name before mid after other.NoMemory still a = a
-lacks_file_as most name before mid after (other.BadFrame at why) still a = absurd a
-lacks_file_as most name before mid after (other.Truncated at) still a = absurd a
-
-pub within_still : (most : ℕ) (name : List ℕ) (before mid : FilesTold) (bytes : List ℕ) → StillTold before mid → IsWithin most (mid.told name) bytes
-    → IsWithin most (before.told name) bytes
-within_still most name before mid bytes still within = subst (λ (t : Told). IsWithin most t bytes) (still.told name) within
+lacks_file_as most name before mid after there still lacks = file_as most name before after there (still_lacks most name before mid after still fault_there there lacks)
 
 -- the verdict that was told is that on the recording
 pub tells : (start : Start) (recording : List ℕ) (same : Type 0) (wrote writes : SinkTold) (verdict : Verdict) → IsVerdict start recording verdict

@@ -1,45 +1,31 @@
 -- With all that is needed, and without a fault, the verdict is told unless memory runs out.
-use Rattle.std.proofs.Common.{◌≡◌, ◌≤◌, ◌∙◌, ℕ, List, is_some, true≢false, length, refl, sym, ap, subst, arith, inl, inr}
-use Rattle.std.specs.Prelude.{None, Some}
-use Rattle.fidl_names.specs.declared.limits.TheConstants as limit
-use Rattle.host_io.specs.Told.{Holds, IsAllOf, IsLongerThan, Told}
+use Rattle.std.proofs.Common.{◌≡◌, ◌∙◌, ℕ, List, Some, refl, ap, subst, inl, inr}
+use Rattle.host_io.specs.declared.files.FileFault.TheVariants as fault
 use Rattle.session_start.specs.Items.{Lists}
-use Rattle.tree_file.specs.Rules.{first_failure, start_from}
 use Rattle.link_audit.proofs.OneVerdict.{one_verdict}
 use Rattle.link_audit.specs.Verdicts.{IsVerdict}
 use Rattle.link_audit.specs.declared.auditing.TheConstants.{MAX_RECORDING}
 use Rattle.link_audit.specs.declared.verdicts.Verdict.{Verdict}
 use Rattle.run_status.specs.FileCauses.{LacksFile, LacksStart}
-use Rattle.run_status.specs.Trees.{IsBroken, Stands}
 use Rattle.run_status.specs.Outside.{FilesTold, SinkTold}
+use Rattle.run_status.proofs.FoundFiles.{has_file, has_start, same_lists, same_text}
 use Rattle.vfs_journal.specs.Starts.{start_of}
 use Rattle.audit_program.specs.Answers.{Answers, HasAll, IsTold, NoFault, TellsVerdict, WritesLine}
 use Rattle.audit_program.specs.Statuses.{Collides, fault_in, rule_in, status_of}
 use Rattle.audit_program.specs.declared.statuses.AuditStatus.{AuditStatus}
 use Rattle.audit_program.specs.declared.statuses.AuditStatus.TheVariants as status
 
-same_text : (told : Told) (text other : List ℕ) → told ≡ Holds text → IsAllOf told other → other ≡ text
-same_text told text other e all = subst (λ (t : Told). IsAllOf t other) e all
-
-same_lists : (told : Told) (text : List ℕ) (one other : Lists) → told ≡ Holds text → Stands (Holds text) one → Stands told other → other ≡ one
-same_lists told text one other e a b =
-    let texts : b.text ≡ a.text = same_text told text b.text e b.within.0 ∙ sym a.within.0 in
-    let lists : Some other ≡ Some one = sym b.is ∙ (ap start_from texts ∙ a.is) in
-    cc
-
-not_large : (most : ℕ) (told : Told) (text : List ℕ) → told ≡ Holds text → length text ≤ most → IsLongerThan most told → ⊥
-not_large most told text e few long =
-    let longer = subst (IsLongerThan most) e long in
-    omega (arith, longer, few)
-
--- a text that breaks a rule isn't one that breaks none
-no_first : (text : List ℕ) (first : ℕ × ℕ) → first_failure text ≡ Some first → first_failure text ≡ None → ⊥
-no_first text first some none = true≢false (ap is_some (sym some ∙ none))
-
-not_broken : (told : Told) (lists : Lists) (text : List ℕ) (rule item : ℕ) → told ≡ Holds text → Stands (Holds text) lists → IsBroken told rule item → ⊥
-not_broken told lists text rule item e stands broken =
-    let texts : broken.text ≡ stands.text = same_text told text broken.text e broken.within.0 ∙ sym stands.within.0 in
-    no_first broken.text (rule, item) broken.first (ap first_failure texts ∙ stands.unbroken)
+-- the status of a cause of files that is want of memory
+only_memory : (answer : AuditStatus) → fault_in answer ≡ Some fault.NoMemory → answer ≡ status.NoMemory
+only_memory status.NoMemory e = refl
+only_memory status.FileFault e = absurd (cc)
+only_memory status.FileTooLarge e = absurd (cc)
+only_memory status.Done e = absurd (cc)
+only_memory status.Usage e = absurd (cc)
+only_memory (status.TreeRefused rule item) e = absurd (cc)
+only_memory status.WriteFault e = absurd (cc)
+only_memory (status.Collision first second) e = absurd (cc)
+only_memory (status.Unlawful place why) e = absurd (cc)
 
 module _ (tree recording : List ℕ) (before after : FilesTold) (wrote writes : SinkTold) (lists : Lists) (bytes : List ℕ) (verdict : Verdict)
     (all : HasAll tree recording before lists bytes verdict) (good : NoFault tree recording before after wrote writes) where
@@ -54,28 +40,11 @@ module _ (tree recording : List ℕ) (before after : FilesTold) (wrote writes : 
   no_collision status.NoMemory a = absurd a
   no_collision (status.Unlawful place why) a = absurd a
 
-  has_start : (answer : AuditStatus) → LacksStart rule_in fault_in tree before after answer → IsTold verdict answer
-  has_start (status.TreeRefused rule item) a = absurd (not_broken (before.told tree) lists all.text rule item all.told all.stands a)
-  has_start status.FileFault a = absurd (good.of_tree a)
-  has_start status.FileTooLarge a =
-      absurd (not_large limit.MAX_TEXT (before.told tree) all.text all.told (subst (λ (t : List ℕ). length t ≤ limit.MAX_TEXT) all.stands.within.0 all.stands.within.1) a.1)
-  has_start status.NoMemory a = inr refl
-  has_start status.Done a = absurd a
-  has_start status.Usage a = absurd a
-  has_start status.WriteFault a = absurd a
-  has_start (status.Collision first second) a = absurd a
-  has_start (status.Unlawful place why) a = absurd a
+  no_start : (answer : AuditStatus) → LacksStart rule_in fault_in tree before after answer → IsTold verdict answer
+  no_start answer lacks = inr (only_memory answer (has_start tree all.text lists before after all.told all.stands good.of_tree rule_in fault_in answer lacks))
 
-  has_recording : (answer : AuditStatus) → LacksFile fault_in MAX_RECORDING recording before after answer → IsTold verdict answer
-  has_recording status.FileFault a = absurd (good.of_recording a)
-  has_recording status.FileTooLarge a = absurd (not_large MAX_RECORDING (before.told recording) bytes all.recorded all.few a.1)
-  has_recording status.NoMemory a = inr refl
-  has_recording (status.TreeRefused rule item) a = absurd a
-  has_recording status.Done a = absurd a
-  has_recording status.Usage a = absurd a
-  has_recording status.WriteFault a = absurd a
-  has_recording (status.Collision first second) a = absurd a
-  has_recording (status.Unlawful place why) a = absurd a
+  no_recording : (answer : AuditStatus) → LacksFile fault_in MAX_RECORDING recording before after answer → IsTold verdict answer
+  no_recording answer lacks = inr (only_memory answer (has_file MAX_RECORDING recording bytes before after all.recorded all.few good.of_recording fault_in answer lacks))
 
   line_told : (same : Type 0) (told : Verdict) → told ≡ verdict → (answer : AuditStatus) → WritesLine told same wrote writes answer → IsTold verdict answer
   line_told same told e status.NoMemory a = inr refl
@@ -105,8 +74,8 @@ module _ (tree recording : List ℕ) (before after : FilesTold) (wrote writes : 
 
   pub complete : (same : Type 0) (answer : AuditStatus) → Answers tree recording before after same wrote writes answer → IsTold verdict answer
   complete same answer (inl a) = no_collision answer a.0
-  complete same answer (inr (none, distinct, inl a)) = has_start answer a.0
-  complete same answer (inr (none, distinct, inr (found, stands, inl a))) = has_recording answer a.0
+  complete same answer (inr (none, distinct, inl a)) = no_start answer a.0
+  complete same answer (inr (none, distinct, inr (found, stands, inl a))) = no_recording answer a.0
   complete same answer (inr (none, distinct, inr (found, stands, inr (read, within, told)))) =
       let lists_same : found ≡ lists = same_lists (before.told tree) all.text lists found all.told all.stands stands.stands in
       let bytes_same : read ≡ bytes = same_text (before.told recording) bytes read all.recorded within.0 in

@@ -3,8 +3,9 @@ use Rattle.link_audit.specs.Verdicts.{IsVerdict}
 use Rattle.link_audit.specs.Vouching.{VouchesForLaws}
 use Rattle.link_audit.specs.declared.auditing.TheConstants.{MAX_RECORDING}
 use Rattle.run_status.specs.Outside.{sink_told}
+use Rattle.run_status.proofs.FoundFiles.{still_within}
 use Rattle.vfs_journal.specs.Starts.{start_of}
-use Rattle.audit_program.proofs.Causes.{tells, within_still}
+use Rattle.audit_program.proofs.Causes.{tells}
 use Rattle.audit_program.proofs.run.audit_files.Goals as goal
 
 pub returns-clause-answers : goal.returns-clause-answers
@@ -22,7 +23,7 @@ returns-clause-answers g c =
         record { stands = c.in-Ok-read_start.ensures.stands; bytes = told.bytes },
         inr (
           bytes,
-          within_still MAX_RECORDING c.args.recording.now _ _ bytes c.in-Ok-read_start.ensures.files c.in-Ok-read_file.ensures.file,
+          still_within MAX_RECORDING c.args.recording.now bytes _ _ c.in-Ok-read_start.ensures.files c.in-Ok-read_file.ensures.file,
           tells start bytes (c.tell_verdict.new.sink ≡ c.args.sink.now) wrote writes c.in-Ok-audit.verdict
               (subst (λ (b : List ℕ). IsVerdict start b c.in-Ok-audit.verdict) c.deref.ensures.value told.verdict)
               (subst (λ (b : List ℕ). VouchesForLaws start b c.in-Ok-audit.verdict) c.deref.ensures.value told.laws)
