@@ -34,6 +34,9 @@ numeral_utf8 radix word high h = IsUtf8-from_ascii word (digits_ascii radix word
 decimal_value : (c : ℕ) → is_decimal_digit c ≡ true → digit_value c < 10
 decimal_value c h = grind arith
 
+decimal_code : (c : ℕ) → digit_value c < 10 → (48 ≤ c) × (digit_value c ≡ c - 48)
+decimal_code c h = grind arith
+
 letter_bounds : (c : ℕ) → nat_le 97 c && nat_le c 102 ≡ true → (97 ≤ c) × (c ≤ 102)
 letter_bounds c h = let parts = and_parts (nat_le 97 c) (nat_le c 102) h in (leb-true 97 c parts.0, leb-true c 102 parts.1)
 
@@ -60,6 +63,44 @@ all_hexadecimal [] h = tt
 all_hexadecimal (c ∷ word) h =
     let parts = and_parts (is_digit c) (list_all is_digit word) h in
     (digit_value_16 c parts.0, all_hexadecimal word parts.1)
+
+-- ---- few digits, one behind the other
+
+few_fit : (radix most : ℕ) (word : List ℕ) (i : ℕ) → 0 < radix → i ≤ most → radix ^ most ≤ 2 ^ 64 → i ≤ length word → AllDigits radix (take i word) →
+    digits_value radix (take i word) < 2 ^ 64
+few_fit radix most word i some few fits within all =
+    let small = digits_value-lt radix (take i word) all in
+    let size = length-take-le i word within in
+    let bound : radix ^ length (take i word) ≤ radix ^ most = pow-le-pow_right some (omega (arith, size, few)) in
+    omega (arith, small, bound, fits)
+
+-- one digit more
+pub decimal_step : (word : List ℕ) (i : ℕ) → i < 19 → list_all is_decimal_digit (take i word) ≡ true → i < length word → is_decimal_digit (get_or word i 0) ≡ true →
+    (48 ≤ get_or word i 0)
+    × (digits_value 10 (take (i + 1) word) ≡ digits_value 10 (take i word) * 10 + (get_or word i 0 - 48))
+    × (digits_value 10 (take (i + 1) word) < 2 ^ 64)
+    × (list_all is_decimal_digit (take (i + 1) word) ≡ true)
+decimal_step word i few all within digit =
+    let code = decimal_code (get_or word i 0) (decimal_value (get_or word i 0) digit) in
+    let more : list_all is_decimal_digit (take (i + 1) word) ≡ true = list_all_more is_decimal_digit word i 0 within ∙ rw (all, digit) refl in (
+      code.0,
+      digits_value_more 10 word i within ∙ ap (λ d. digits_value 10 (take i word) * 10 + d) code.1,
+      few_fit 10 19 word (i + 1) (omega arith) (omega (arith, few)) (omega arith) (omega (arith, within)) (all_decimal (take (i + 1) word) more),
+      more,
+    )
+
+few_by : (word : List ℕ) (test : Bool) → list_all is_decimal_digit word ≡ test → is_led word ≡ true → length word ≤ 19 →
+    given (list_all is_decimal_digit word) (digits_value 10 word) ≡ given (is_decimal word && nat_lt (digits_value 10 word) (2 ^ 64)) (digits_value 10 word)
+few_by word true all led few =
+    let fits : digits_value 10 word < 2 ^ 64 = let small = digits_value-lt 10 word (all_decimal word all) in
+    let bound : 10 ^ length word ≤ 10 ^ 19 = pow-le-pow_right (omega arith) few in omega (arith, small, bound) in
+    rw (all, led, lt-ltb (digits_value 10 word) (2 ^ 64) fits) refl
+few_by word false all led few = rw all refl
+
+-- few digits with no zero in front are read
+pub few_read : (word : List ℕ) → is_led word ≡ true → length word ≤ 19 →
+    given (list_all is_decimal_digit word) (digits_value 10 word) ≡ given (is_decimal word && nat_lt (digits_value 10 word) (2 ^ 64)) (digits_value 10 word)
+few_read word led few = few_by word (list_all is_decimal_digit word) refl led few
 
 -- ---- numbers that fit 64 bits
 

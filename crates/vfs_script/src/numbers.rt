@@ -13,6 +13,9 @@ use text_pieces::Pieces;
 
 const NONE: &[u8] = b"-";
 
+/// So many decimal digits fit 64 bits, whatever they are.
+const FEW_DIGITS: usize = 19;
+
 fn is_decimal_digit(byte: u8) -> bool
     ensures { result ≡ is_decimal_digit byte }
 {
@@ -79,12 +82,30 @@ fn digits(word: &[u8], radix: u32) -> Option<u64>
     u64::from_str_radix(str::from_utf8(word).ok()?, radix).ok()
 }
 
+// The number that few decimal digits write, read in one pass, since most numbers are such.
+fn few_decimal(word: &[u8]) -> Option<u64>
+    requires { length word.now ≤ 19 }
+    ensures { result ≡ given (list_all is_decimal_digit word.now) (digits_value 10 word.now) }
+{
+    let mut number = 0;
+    for byte in word {
+        if !is_decimal_digit(*byte) {
+            return None;
+        }
+        number = 10 * number + u64::from(byte - b'0');
+    }
+    Some(number)
+}
+
 // The number that decimal digits write, with no zero in front of others, if it fits 64 bits.
 fn decimal(word: &[u8]) -> Option<u64>
     ensures { result ≡ given (is_decimal word.now && nat_lt (digits_value 10 word.now) (2 ^ 64)) (digits_value 10 word.now) }
 {
     if !is_led(word) {
         return None;
+    }
+    if word.len() <= FEW_DIGITS {
+        return few_decimal(word);
     }
     if !all_decimal(word) {
         return None;
