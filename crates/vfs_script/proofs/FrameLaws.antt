@@ -1,8 +1,8 @@
 -- What a script stands for are frames that may go to the servers.
-use Rattle.std.proofs.Common.{◌≡◌, ℕ, ◌<◌, ◌≤◌, ◌^◌, Bool, true, false, not, cond, List, [], ◌∷◌, ◌++◌, length, map, Option, Some, None, refl, ap, subst, lit≤}
+use Rattle.std.proofs.Common.{◌≡◌, ℕ, ◌<◌, ◌≤◌, ◌^◌, Bool, true, false, not, cond, List, [], ◌∷◌, ◌++◌, length, map, Option, Some, None, refl, subst, lit≤}
 use Rattle.std.specs.Prelude.{⊤, IfSome, All, IsTrue, nat_lt, nat_le, filter, filter_map}
 use Rattle.std.specs.List.{cons_option, flat_map}
-use Rattle.std.specs.Str.{bytes_eq, is_utf8}
+use Rattle.std.specs.Str.{bytes_eq}
 use Rattle.std.proofs.Math.Seq.{drop-append_seam, take-append_seam}
 use Rattle.std.proofs.lemmas.Bool.{ltb-true, leb-true, eq-eqb}
 use Rattle.std.proofs.lemmas.List.Elements.{All-nil, All-cons, All-head, All-tail, All-drop, All-take}
@@ -13,7 +13,6 @@ use Rattle.fidl_names.specs.declared.limits.TheConstants as limit
 use Rattle.link_frames.proofs.Words.{length-word_of}
 use Rattle.link_frames.specs.Frames.{Frame, HasShape, IsFrame, fixed_part, goes_to, spelling, spellings}
 use Rattle.link_frames.specs.Numbers.{word_of}
-use Rattle.link_frames.specs.declared.kinds.FrameKind.TheVariants as kind
 use Rattle.link_frames.specs.declared.kinds.Side.TheVariants as side
 use Rattle.fidl_names.specs.declared.methods.Method.TheVariants as method
 use Rattle.fidl_wire.specs.Layout.{members, seq}

@@ -9,7 +9,6 @@ use Rattle.link_frames.specs.Numbers.{word_of}
 use Rattle.io_messages.specs.Asked.{Asked, method_of}
 use Rattle.io_messages.specs.Asked as asks
 use Rattle.io_messages.specs.Shapes.{is_one_way}
-use Rattle.io_messages.specs.Writing.{request_bytes}
 use Rattle.io_client.specs.Calls.{request_frame, watcher_of}
 use Rattle.vfs_script.specs.declared.calls.Call.{Call}
 use Rattle.vfs_script.specs.declared.verbs.Verb.{Verb}

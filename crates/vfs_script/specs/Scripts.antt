@@ -1,5 +1,5 @@
 -- What a text says as a script: its mode, its frames and its calls, or its first bad line.
-use Rattle.std.specs.Prelude.{◌≡◌, ◌<◌, ℕ, ⊤, ◌+◌, ◌==◌, ◌||◌, ◌&&◌, ◌++◌, not, Bool, if◌then◌else◌, List, [], ◌∷◌, length, map, drop, slice_index, slice_get, filter, filter_map, codes, Option, Some, None, is_none, is_some, false}
+use Rattle.std.specs.Prelude.{◌≡◌, ◌<◌, ℕ, ⊤, ◌+◌, ◌==◌, ◌||◌, ◌&&◌, not, Bool, if◌then◌else◌, List, [], ◌∷◌, length, map, drop, slice_index, slice_get, filter, filter_map, codes, Option, Some, None, is_none, is_some, false}
 use Rattle.std.specs.Str.{bytes_eq, is_utf8}
 use Rattle.link_frames.specs.declared.kinds.Mode.{Mode}
 use Rattle.link_frames.specs.declared.kinds.Mode.TheVariants as mode
