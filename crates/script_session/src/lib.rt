@@ -18,4 +18,4 @@ pub use laws::transcripts_show_the_output;
 pub use makes::make;
 pub use measuring::{Measured, measure};
 pub use playing::play;
-pub use scripts::run_script;
+pub use scripts::{read_script, run_script};

@@ -53,8 +53,8 @@ pub fn run_script<F: Files, K: Sink>(
     }
 }
 
-/// The script that the file of this name is.
-fn read_script<F: Files>(
+/// The script that the file of this name is, at most 1,048,576 bytes; or the status that says why there is none.
+pub fn read_script<F: Files>(
     alloc: Global,
     ordinals: &Ordinals,
     name: &str,

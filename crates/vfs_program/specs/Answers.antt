@@ -11,7 +11,7 @@ use Rattle.script_session.specs.Playing.{transcript}
 use Rattle.run_status.specs.declared.statuses.Status.{Status}
 use Rattle.run_status.specs.declared.statuses.Status.TheVariants as status
 use Rattle.run_status.specs.Causes.{AfterNames}
-use Rattle.run_status.specs.Outside.{Outside, sink_of}
+use Rattle.run_status.specs.Outside.{FilesTold, Outside, sink_of}
 use Rattle.run_status.specs.Texts.{WritesPieces, WritesText}
 use Rattle.link_session.specs.Session.{SessionAnswers, IsWhole}
 use Rattle.run_status.specs.FileCauses.{AfterFile, AfterTree}
@@ -59,16 +59,16 @@ abbrev pub HasTree : List ℕ → Outside → Type 0
 HasTree tree before = (text : List ℕ) × (lists : Lists) × (before.files.told tree ≡ Holds text) × Stands (Holds text) lists
 
 -- the script's file is told, within its limit, and none of its lines is bad
-pub record HasScript (script : List ℕ) (before : Outside) : Type 0 where
+pub record HasScript (script : List ℕ) (before : FilesTold) : Type 0 where
   pub said : Said
-  pub told : before.files.told script ≡ Holds said.text
+  pub told : before.told script ≡ Holds said.text
   pub says : Says (Holds said.text) said
 
 -- the command has all that it needs
 abbrev pub IsServable : Asks → Outside → Type 0
 IsServable (FileOf name) before = AreDistinct × HasFile name before × IsWhole side.ToServers before.streams
 IsServable (ServeOf tree by) before = AreDistinct × HasTree tree before × IsWhole side.ToServers before.streams
-IsServable (RunOf tree script) before = AreDistinct × HasTree tree before × HasScript script before
+IsServable (RunOf tree script) before = AreDistinct × HasTree tree before × HasScript script before.files
 IsServable (CheckOf tree) before = HasTree tree before
 IsServable ShowAll before = AreDistinct × IsWhole side.Any before.streams
 IsServable (MakeOf rounds) before = AreDistinct
