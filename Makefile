@@ -1,7 +1,7 @@
 # The toolchain is a Rattle kit, whose command `rt` proves, builds and tests.
 
 # Each program stands at build/NAME.
-PROGRAMS := vfs ns mirror audit
+PROGRAMS := vfs ns mirror audit frames
 PROGRAM := build/vfs
 TREE := examples/trees/small.toml
 SCRIPT := examples/scripts/reading.script
@@ -12,7 +12,7 @@ help:
 	@echo "make try    play a script over a small tree before anything is proved, in some minutes (SCRIPT=FILE TREE=FILE: another)"
 	@echo "make build  prove the programs and build them, each as build/NAME: $(PROGRAMS)"
 	@echo "make run    build them, serve example trees and a file (frames with what comes back), play a script, check example trees,"
-	@echo "            rewrite a script by a table, mirror a watched directory, and audit a recording"
+	@echo "            rewrite a script by a table, mirror a watched directory, audit a recording, and serve a script's frames"
 	@echo "make test   all proofs, the edits that must be refused, the tests and the programs, the examples and the documents"
 	@echo "make check  build them, run them on the examples, and play worked sessions and trees"
 	@echo "make bench  processor time, instructions a frame where valgrind is there, and memory"
@@ -68,6 +68,10 @@ run: build
 	@echo "audit crates/audit/data/tree crates/audit/data/recording"
 	@echo
 	@build/audit crates/audit/data/tree crates/audit/data/recording
+	@echo
+	@echo "frames $(SCRIPT) | vfs serve $(TREE) auto | vfs show"
+	@echo
+	@build/frames $(SCRIPT) | $(PROGRAM) serve $(TREE) auto | $(PROGRAM) show
 
 test:
 	@.ci/run
@@ -78,6 +82,8 @@ check: build
 	@examples/ns.sh build/ns $(PROGRAM)
 	@examples/mirror.sh build/mirror $(PROGRAM)
 	@examples/audit.sh build/audit $(PROGRAM)
+	@examples/frames.sh build/frames $(PROGRAM)
+	@examples/conform.sh $(PROGRAM) build/frames
 
 bench: build
 	@tools/bench.sh $(PROGRAM)

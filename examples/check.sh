@@ -6,6 +6,7 @@ cd "$(dirname "$0")/.." || exit 1
 program=$1
 work=$(mktemp -d) || exit 1
 trap 'rm -rf "$work"' EXIT
+. tools/cases.sh
 passed=0 failed=0
 
 # What goes in and comes out, in hexadecimal, by the name that the cases have for it.
@@ -122,14 +123,6 @@ a tree that breaks a rule       | check @wrong                      | nothing   
 a tree that isn't there         | check @none                       | nothing     | nothing      | 5 | file failed
 a tree that is too large        | check @large                      | nothing     | nothing      | 5 | file too large
 a tree that is a directory      | check .                           | nothing     | nothing      | 5 | file failed
-the script on reading           | run examples/trees/small.toml examples/scripts/reading.script | nothing | examples/scripts/reading.transcript | 0 |
-the script on writing           | run examples/trees/small.toml examples/scripts/writing.script | nothing | examples/scripts/writing.transcript | 0 |
-the script on directories       | run examples/trees/small.toml examples/scripts/directories.script | nothing | examples/scripts/directories.transcript | 0 |
-the script on rights            | run examples/trees/every_kind.toml examples/scripts/rights.script | nothing | examples/scripts/rights.transcript | 0 |
-the script on mounts            | run examples/trees/mounted_pair.toml examples/scripts/mounts.script | nothing | examples/scripts/mounts.transcript | 0 |
-the script on watching          | run examples/trees/small.toml examples/scripts/watching.script | nothing | examples/scripts/watching.transcript | 0 |
-the script on turns             | run examples/trees/mounted_pair.toml examples/scripts/turns.script | nothing | examples/scripts/turns.transcript | 0 |
-the script on refusals          | run examples/trees/small.toml examples/scripts/refusals.script | nothing | examples/scripts/refusals.transcript | 0 |
 a script without a mode         | run examples/trees/small.toml @modeless | nothing | nothing   | 2 | script refused: line 0
 no script over a refused tree   | run @wrong @none                  | nothing     | nothing      | 2 | tree refused: rule 2 item 0
 one round                       | make 1                            | nothing     | @one         | 0 |
@@ -206,6 +199,12 @@ while IFS='|' read -r what words input output status note; do
     run "${words[@]}" < "$work/in" > "$work/out" 2> "$work/note"
     judge "$what" $? "$status" "$note" "$output"
 done <<< "$cases"
+
+# The tour.
+for script in "${!tour[@]}"; do
+    run run "$(tree_of "${tour[$script]}")" "examples/scripts/$script.script" < /dev/null > "$work/out" 2> "$work/note"
+    judge "the script on $script" $? 0 '' "examples/scripts/$script.transcript"
+done
 
 # Words that aren't UTF-8 end without a note.
 run file $'\xff' < /dev/null > "$work/out" 2> "$work/note"

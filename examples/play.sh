@@ -9,6 +9,7 @@ shift
 [ $# -gt 0 ] || set -- examples/cases/*.sessions examples/cases/*.trees
 work=$(mktemp -d) || exit 1
 trap 'rm -rf "$work"' EXIT
+. tools/cases.sh
 passed=0 failed=0
 
 # What the program says: its output, and its note behind that. One that never ends fails its case.
@@ -29,14 +30,6 @@ compare() { # NUMBER NAME WORD..
     fi
 }
 
-# The file of a tree: of the cases, of the other examples, or of those that are played over objects in memory.
-tree_of() { # NAME
-    local folder
-    for folder in examples/cases examples/trees crates/io_conformance/data/trees; do
-        if [ -e "$folder/$1.toml" ]; then echo "$folder/$1.toml"; return; fi
-    done
-}
-
 for file; do
     before=$passed kind=${file##*.}
     while IFS="|" read -r number over name; do
@@ -50,7 +43,7 @@ for file; do
         for tree in "${trees[@]-none}"; do
             compare "$number" "$name, over $tree" run "$(tree_of "$tree")" "$work/$number.given"
         done
-    done < <(awk -f tools/repeats.awk "$file" | awk -v work="$work" -v kind="$kind" -f tools/cases.awk)
+    done < <(cases_of "$file")
     echo "$(basename "$file"): $((passed - before)) hold"
 done
 
