@@ -1,0 +1,4 @@
+pub mod Causes
+pub mod Complete
+pub mod Few
+pub mod Piped

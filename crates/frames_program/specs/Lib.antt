@@ -1,3 +1,4 @@
 pub mod Words
 pub mod Notes
 pub mod Answers
+pub mod Pipes

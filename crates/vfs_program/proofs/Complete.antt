@@ -79,7 +79,7 @@ session_done side course before after same is source sink (status.Truncated at) 
 session_done side course before after same is source sink (status.BadFrame at why) a = not_bad side course before after at why is a
 
 -- a text that is written without faults is done
-text_done : (text : List ℕ) (starved : Type 0) (before after : SinkTold) → (Rose before.faults after.faults → ⊥)
+pub text_done : (text : List ℕ) (starved : Type 0) (before after : SinkTold) → (Rose before.faults after.faults → ⊥)
     → (answer : Status) → WritesText text starved before after answer → IsDoneOrNoMemory answer
 text_done text starved before after sink status.Done a = tt
 text_done text starved before after sink status.NoMemory a = tt
@@ -96,7 +96,7 @@ text_done text starved before after sink (status.Truncated at) a = a
 text_done text starved before after sink (status.BadFrame at why) a = a
 
 -- names that differ don't collide
-no_collision : AreDistinct → (answer : Status) → Collides answer → IsDoneOrNoMemory answer
+pub no_collision : AreDistinct → (answer : Status) → Collides answer → IsDoneOrNoMemory answer
 no_collision distinct (status.Collision first second) a = distinct first second a.order a.row a.equal
 no_collision distinct status.Done a = absurd a
 no_collision distinct status.NoMemory a = absurd a
@@ -171,7 +171,7 @@ not_bad_at told said line e says bad =
     let same : bad.text ≡ said.text = subst (λ t. IsAllOf t bad.text) e bad.within.0 in
     no_line bad.text line bad.first (ap bad_line same ∙ says.good)
 
-has_script : (script : List ℕ) (before after : FilesTold) (said : Said) → before.told script ≡ Holds said.text → Says (Holds said.text) said
+pub has_script : (script : List ℕ) (before after : FilesTold) (said : Said) → before.told script ≡ Holds said.text → Says (Holds said.text) said
     → (IsFileFault script before after → ⊥) → (answer : Status) → HasNoScript script before after answer → IsDoneOrNoMemory answer
 has_script script before after said e says good (status.ScriptRefused line) a = not_bad_at (before.told script) said line e says a
 has_script script before after said e says good status.NoMemory a = tt
@@ -203,7 +203,7 @@ starved (status.BadFrame at why) a = absurd a
 starved (status.Truncated at) a = absurd a
 
 -- causes that don't hold, and a rest that is done
-after_done : {X : Type 0} (stops : Status → Type 0) (same : Type 0) (Found : X → Type 0) (rest : X → Status → Type 0) (answer : Status)
+pub after_done : {X : Type 0} (stops : Status → Type 0) (same : Type 0) (Found : X → Type 0) (rest : X → Status → Type 0) (answer : Status)
     → (stops answer → IsDoneOrNoMemory answer) → ((x : X) → Found x → rest x answer → IsDoneOrNoMemory answer)
     → After stops same Found rest answer → IsDoneOrNoMemory answer
 after_done stops same Found rest answer stopped goes (inl a) = stopped a.0
