@@ -54,12 +54,7 @@ pub fn frames_words<F: Files, K: Sink, N: Sink>(
 }
 
 /// Does what the words ask for.
-fn answer<F: Files, K: Sink>(
-    alloc: Global,
-    words: &[String],
-    files: &mut F,
-    sink: &mut K,
-) -> Status
+fn answer<F: Files, K: Sink>(alloc: Global, words: &[String], files: &mut F, sink: &mut K) -> Status
     ensures usage { MeanNothing (map string_bytes words.now) →
         (result ≡ status.Usage) × (files.new ≡ files.old) × (sink.new ≡ sink.old) }
     ensures answers { let told = files_told F.told F.faults F.overlong in let wrote = sink_told K.written K.flushed K.faults in
