@@ -17,7 +17,7 @@ BEGIN {
         for (i = 1; i <= count; i++) word[part[i]] = 1
     }
     # Words of the outside, and what is made.
-    outside("make|rt|bash|awk|od|rt ci|rt check|rt version|--help|--version|build/vfs", "|")
+    outside("make|rt|bash|awk|od|rt ci|rt check|rt version|--help|--version|build/vfs|frames /dev/stdin", "|")
 }
 
 FNR == 1 { crate = ""; is_fenced = 0 }
@@ -62,6 +62,10 @@ function check(name, is_right, why) {
 
 function is_there(name,    part, count, i) {
     if (name in known) return 1
+    # A pipe, program by program.
+    count = split(name, part, / \\\| /)
+    for (i = 1; count > 1 && i <= count; i++) if (!is_there(part[i])) return 0
+    if (count > 1) return 1
     if (name ~ /^(docs|examples|tools|crates|specs|src|proofs|must-fail|\.ci)\//) return 0
     if (name ~ /^[A-Z][A-Za-z]*::[a-z]/) return name in call
     if (name ~ /^make /) return 0
