@@ -37,7 +37,7 @@ use Rattle.vfs_program.specs.TreeSession.{tree_course}
 use Rattle.vfs_program.specs.Words.{RunOf, ServeOf, ShowAll}
 use Rattle.vfs_program.proofs.Lawful.{stands_accepted}
 use Rattle.vfs_script.specs.Scripts.{calls_of, count_calls, frames_of, script_lines, script_mode}
-use Rattle.vfs_script.specs.Transcripts.{frame_line}
+use Rattle.vfs_script.specs.Transcripts.{counts_line, frame_line}
 use Rattle.frames_program.proofs.Few.{scripts_few}
 use Rattle.frames_program.specs.Pipes.{Feeds, Finds, IsButForCounts, IsDone, IsMade, IsPiped, Pipe, Run, Writes}
 
@@ -216,10 +216,12 @@ piped tree script pipe lines all is shows runs =
     let same : l.frames ≡ frames_behind (start_of s.lists) (ended (start_of s.lists) is.by (frames_of is.text)) = c.once l.frames l.read in
     let first : lines ≡ flat_map frame_line (frames_behind (start_of s.lists) (ended (start_of s.lists) is.by (frames_of is.text))) = l.wrote ∙ ap (flat_map frame_line) same in
     let told : all ≡ transcript (start_of s.lists) is.by is.text = p.is ∙ ap (λ (t : Lists). transcript (start_of t) is.by is.text) trees in
+    let calls = count_calls (calls_of is.text) in
+    let answered = count_answers (play_all (start_of s.lists) is.by (script_lines is.text)) in
     record {
-      calls = count_calls (calls_of is.text);
-      answered = count_answers (play_all (start_of s.lists) is.by (script_lines is.text));
-      is = told ∙ transcript_is (start_of s.lists) is.by is.text ∙ ap (λ l. l ++ _) (sym first);
+      calls = calls;
+      answered = answered;
+      is = told ∙ transcript_is (start_of s.lists) is.by is.text ∙ ap (λ l. l ++ counts_line calls answered) (sym first);
     }
 
 -- what a session wrote is whole frames, whatever its input was

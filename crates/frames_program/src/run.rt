@@ -89,7 +89,8 @@ fn write_frames<F: Files, K: Sink>(
         Ok(script) => script,
         Err(status) => return status,
     };
-    match pass_on(sink, script.frames()) {
+    let frames = script.frames();
+    match pass_on(sink, frames) {
         Ok(()) => Status::Done,
         Err(Failed) => Status::WriteFault,
     }
