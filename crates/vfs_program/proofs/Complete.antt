@@ -5,9 +5,9 @@ use Rattle.fidl_names.specs.declared.limits.TheConstants as limit
 use Rattle.fidl_wire.specs.Names.{AreDistinct}
 use Rattle.host_io.specs.Causes.{Rose}
 use Rattle.host_io.specs.Streams.{AppendsPart}
-use Rattle.host_io.specs.Told.{Told, Holds, IsAllOf, IsLongerThan}
+use Rattle.host_io.specs.Told.{Told, Holds}
+use Rattle.host_io.specs.declared.files.FileFault.TheVariants as fault
 use Rattle.session_start.specs.Items.{Lists}
-use Rattle.tree_file.specs.Rules.{first_failure}
 use Rattle.link_frames.specs.Frames.{Frames, Bad}
 use Rattle.link_frames.specs.declared.kinds.FrameReason.{FrameReason}
 use Rattle.link_frames.specs.declared.kinds.Side.{Side}
@@ -23,9 +23,10 @@ use Rattle.run_status.specs.Causes.{After, Collides}
 use Rattle.run_status.specs.Outside.{FilesTold, Outside, Streams, SinkTold, sink_of}
 use Rattle.run_status.specs.Texts.{WritesPieces, WritesText}
 use Rattle.link_session.specs.Session.{Course, SessionAnswers, IsWhole, IsTooLong, IsTruncated, IsBad}
-use Rattle.run_status.specs.FileCauses.{AfterFile, AfterTree, HasNoFile, HasNoStart}
+use Rattle.run_status.specs.FileCauses.{AfterFile, AfterTree, HasNoFile, HasNoStart, fault_in, rule_in}
 use Rattle.run_status.specs.Files.{IsFileFault, IsWithin}
-use Rattle.run_status.specs.Trees.{IsBroken, IsTree, Stands, line_of}
+use Rattle.run_status.specs.Trees.{IsTree, Stands, line_of}
+use Rattle.run_status.proofs.FoundFiles.{has_file, has_start, not_large, same_text}
 use Rattle.file_session.specs.OneFile.{file_course}
 use Rattle.vfs_program.specs.TreeSession.{tree_course}
 use Rattle.vfs_program.specs.Shown.{lines_course}
@@ -111,55 +112,29 @@ no_collision distinct status.InputTooLong a = absurd a
 no_collision distinct (status.Truncated at) a = absurd a
 no_collision distinct (status.BadFrame at why) a = absurd a
 
--- a file within the limit isn't too large
-not_large : (most : ℕ) (told : Told) (text : List ℕ) → told ≡ Holds text → length text ≤ most → IsLongerThan most told → ⊥
-not_large most told text e few long =
-    let longer = subst (IsLongerThan most) e long in
-    omega (arith, longer, few)
+-- a cause of files that is want of memory
+only_memory : (answer : Status) → fault_in answer ≡ Some fault.NoMemory → IsDoneOrNoMemory answer
+only_memory status.NoMemory e = tt
+only_memory status.FileFault e = absurd (cc)
+only_memory status.FileTooLarge e = absurd (cc)
+only_memory status.Done e = absurd (cc)
+only_memory status.WriteFault e = absurd (cc)
+only_memory status.Usage e = absurd (cc)
+only_memory (status.TreeRefused rule item) e = absurd (cc)
+only_memory (status.ScriptRefused line) e = absurd (cc)
+only_memory (status.Collision first second) e = absurd (cc)
+only_memory status.ReadFault e = absurd (cc)
+only_memory status.InputTooLong e = absurd (cc)
+only_memory (status.Truncated at) e = absurd (cc)
+only_memory (status.BadFrame at why) e = absurd (cc)
 
-has_file : (most : ℕ) (name : List ℕ) (before after : FilesTold) (file : List ℕ) → before.told name ≡ Holds file → length file ≤ most
+no_file : (most : ℕ) (name : List ℕ) (before after : FilesTold) (file : List ℕ) → before.told name ≡ Holds file → length file ≤ most
     → (IsFileFault name before after → ⊥) → (answer : Status) → HasNoFile most name before after answer → IsDoneOrNoMemory answer
-has_file most name before after file e few good status.NoMemory a = tt
-has_file most name before after file e few good status.FileFault a = good a
-has_file most name before after file e few good status.FileTooLarge a = not_large most (before.told name) file e few a.1
-has_file most name before after file e few good status.Done a = absurd a
-has_file most name before after file e few good status.WriteFault a = absurd a
-has_file most name before after file e few good status.Usage a = absurd a
-has_file most name before after file e few good (status.TreeRefused rule item) a = absurd a
-has_file most name before after file e few good (status.ScriptRefused line) a = absurd a
-has_file most name before after file e few good (status.Collision first second) a = absurd a
-has_file most name before after file e few good status.ReadFault a = absurd a
-has_file most name before after file e few good status.InputTooLong a = absurd a
-has_file most name before after file e few good (status.Truncated at) a = absurd a
-has_file most name before after file e few good (status.BadFrame at why) a = absurd a
+no_file most name before after file e few good answer lacks = only_memory answer (has_file most name file before after e few good fault_in answer lacks)
 
--- a text that breaks a rule isn't one that breaks none
-no_first : (text : List ℕ) (first : ℕ × ℕ) → first_failure text ≡ Some first → first_failure text ≡ None → ⊥
-no_first text first some none = true≢false (ap is_some (sym some ∙ none))
-
--- the tree breaks no rule
-not_broken : (told : Told) (lists : Lists) (text : List ℕ) (rule item : ℕ) → told ≡ Holds text → Stands (Holds text) lists → IsBroken told rule item → ⊥
-not_broken told lists text rule item e stands broken =
-    let same : broken.text ≡ text = subst (λ t. IsAllOf t broken.text) e broken.within.0 in
-    let whole : stands.text ≡ text = stands.within.0 in
-    no_first broken.text (rule, item) broken.first (ap first_failure (same ∙ sym whole) ∙ stands.unbroken)
-
-has_tree : (tree : List ℕ) (before after : FilesTold) (text : List ℕ) (lists : Lists) → before.told tree ≡ Holds text → Stands (Holds text) lists
+no_tree : (tree : List ℕ) (before after : FilesTold) (text : List ℕ) (lists : Lists) → before.told tree ≡ Holds text → Stands (Holds text) lists
     → (IsFileFault tree before after → ⊥) → (answer : Status) → HasNoStart tree before after answer → IsDoneOrNoMemory answer
-has_tree tree before after text lists e stands good (status.TreeRefused rule item) a = not_broken (before.told tree) lists text rule item e stands a
-has_tree tree before after text lists e stands good (status.ScriptRefused line) a = absurd a
-has_tree tree before after text lists e stands good status.NoMemory a = tt
-has_tree tree before after text lists e stands good status.FileFault a = good a
-has_tree tree before after text lists e stands good status.FileTooLarge a =
-    not_large limit.MAX_TEXT (before.told tree) text e (subst (λ t. length t ≤ limit.MAX_TEXT) stands.within.0 stands.within.1) a.1
-has_tree tree before after text lists e stands good status.Done a = absurd a
-has_tree tree before after text lists e stands good status.WriteFault a = absurd a
-has_tree tree before after text lists e stands good status.Usage a = absurd a
-has_tree tree before after text lists e stands good (status.Collision first second) a = absurd a
-has_tree tree before after text lists e stands good status.ReadFault a = absurd a
-has_tree tree before after text lists e stands good status.InputTooLong a = absurd a
-has_tree tree before after text lists e stands good (status.Truncated at) a = absurd a
-has_tree tree before after text lists e stands good (status.BadFrame at why) a = absurd a
+no_tree tree before after text lists e stands good answer lacks = only_memory answer (has_start tree text lists before after e stands good rule_in fault_in answer lacks)
 
 -- a text with a bad line isn't one that has none
 no_line : (text : List ℕ) (line : ℕ) → bad_line text ≡ Some line → bad_line text ≡ None → ⊥
@@ -168,24 +143,24 @@ no_line text line some none = true≢false (ap is_some (sym some ∙ none))
 -- no line of the script is bad
 not_bad_at : (told : Told) (said : Said) (line : ℕ) → told ≡ Holds said.text → Says (Holds said.text) said → IsBadAt told line → ⊥
 not_bad_at told said line e says bad =
-    let same : bad.text ≡ said.text = subst (λ t. IsAllOf t bad.text) e bad.within.0 in
+    let same : bad.text ≡ said.text = same_text told said.text bad.text e bad.within.0 in
     no_line bad.text line bad.first (ap bad_line same ∙ says.good)
 
-pub has_script : (script : List ℕ) (before after : FilesTold) (said : Said) → before.told script ≡ Holds said.text → Says (Holds said.text) said
+pub no_script : (script : List ℕ) (before after : FilesTold) (said : Said) → before.told script ≡ Holds said.text → Says (Holds said.text) said
     → (IsFileFault script before after → ⊥) → (answer : Status) → HasNoScript script before after answer → IsDoneOrNoMemory answer
-has_script script before after said e says good (status.ScriptRefused line) a = not_bad_at (before.told script) said line e says a
-has_script script before after said e says good status.NoMemory a = tt
-has_script script before after said e says good status.FileFault a = good a
-has_script script before after said e says good status.FileTooLarge a = not_large limit.MAX_TEXT (before.told script) said.text e says.within.1 a.1
-has_script script before after said e says good status.Done a = absurd a
-has_script script before after said e says good status.WriteFault a = absurd a
-has_script script before after said e says good status.Usage a = absurd a
-has_script script before after said e says good (status.TreeRefused rule item) a = absurd a
-has_script script before after said e says good (status.Collision first second) a = absurd a
-has_script script before after said e says good status.ReadFault a = absurd a
-has_script script before after said e says good status.InputTooLong a = absurd a
-has_script script before after said e says good (status.Truncated at) a = absurd a
-has_script script before after said e says good (status.BadFrame at why) a = absurd a
+no_script script before after said e says good (status.ScriptRefused line) a = not_bad_at (before.told script) said line e says a
+no_script script before after said e says good status.NoMemory a = tt
+no_script script before after said e says good status.FileFault a = good a
+no_script script before after said e says good status.FileTooLarge a = not_large limit.MAX_TEXT (before.told script) said.text e says.within.1 a.1
+no_script script before after said e says good status.Done a = absurd a
+no_script script before after said e says good status.WriteFault a = absurd a
+no_script script before after said e says good status.Usage a = absurd a
+no_script script before after said e says good (status.TreeRefused rule item) a = absurd a
+no_script script before after said e says good (status.Collision first second) a = absurd a
+no_script script before after said e says good status.ReadFault a = absurd a
+no_script script before after said e says good status.InputTooLong a = absurd a
+no_script script before after said e says good (status.Truncated at) a = absurd a
+no_script script before after said e says good (status.BadFrame at why) a = absurd a
 
 starved : (answer : Status) → IsStarved answer → IsDoneOrNoMemory answer
 starved status.NoMemory a = tt
@@ -215,13 +190,13 @@ complete (FileOf name) before after S K answer a s n =
     let session : List ℕ → Status → Type 0 = λ file. SessionAnswers ToServers (file_course file) before.streams after.streams K in
     after_done Collides (S × K) (λ (none : Unit {0}). AreDistinct) (λ none. AfterFile name before.files after.files (S × K) session) answer (no_collision s.0 answer)
     (λ none distinct. after_done (HasNoFile limit.MAX_FILE name before.files after.files) (S × K) (IsWithin limit.MAX_FILE (before.files.told name)) session answer
-    (has_file limit.MAX_FILE name before.files after.files s.1.0 s.1.1 s.1.2 n.file answer)
+    (no_file limit.MAX_FILE name before.files after.files s.1.0 s.1.1 s.1.2 n.file answer)
     (λ file within. session_done ToServers (file_course file) before.streams after.streams K s.2 n.source n.sink answer)) a
 complete (ServeOf tree by) before after S K answer a s n =
     let session : Lists → Status → Type 0 = λ lists. SessionAnswers ToServers (tree_course (start_of lists) by) before.streams after.streams K in
     after_done Collides (S × K) (λ (none : Unit {0}). AreDistinct) (λ none. AfterTree tree before.files after.files (S × K) session) answer (no_collision s.0 answer)
     (λ none distinct. after_done (HasNoStart tree before.files after.files) (S × K) (IsTree (before.files.told tree)) session answer
-    (has_tree tree before.files after.files s.1.0 s.1.1 s.1.2 s.1.3 n.file answer)
+    (no_tree tree before.files after.files s.1.0 s.1.1 s.1.2 s.1.3 n.file answer)
     (λ lists stands. session_done ToServers (tree_course (start_of lists) by) before.streams after.streams K s.2 n.source n.sink answer)) a
 complete (RunOf tree script) before after S K answer a s n =
     let told : Lists → Said → Status → Type 0 =
@@ -230,16 +205,16 @@ complete (RunOf tree script) before after S K answer a s n =
     let plays : Lists → Status → Type 0 = λ lists. AfterScript script before.files after.files K (told lists) in
     after_done Collides K (λ (none : Unit {0}). AreDistinct) (λ none. AfterTree tree before.files after.files K plays) answer (no_collision s.0 answer)
     (λ none distinct. after_done (HasNoStart tree before.files after.files) K (IsTree (before.files.told tree)) plays answer
-    (has_tree tree before.files after.files s.1.0 s.1.1 s.1.2 s.1.3 (λ f. n.file (inl f)) answer)
+    (no_tree tree before.files after.files s.1.0 s.1.1 s.1.2 s.1.3 (λ f. n.file (inl f)) answer)
     (λ lists stands. after_done (HasNoScript script before.files after.files) K (IsPlayable (before.files.told script)) (told lists) answer
-    (has_script script before.files after.files s.2.said s.2.told s.2.says (λ f. n.file (inr f)) answer)
+    (no_script script before.files after.files s.2.said s.2.told s.2.says (λ f. n.file (inr f)) answer)
     (λ said says. text_done (transcript (start_of lists) said.by said.text)
     (AppendsPart before.streams.written after.streams.written (transcript (start_of lists) said.by said.text) × (after.streams.write_faults ≡ before.streams.write_faults))
     (sink_of before.streams) (sink_of after.streams) n.sink answer))) a.1
 complete (CheckOf tree) before after S K answer a s n =
     after_done (HasNoStart tree before.files after.files) K (IsTree (before.files.told tree))
     (λ lists. WritesText (line_of lists) ⊥ (sink_of before.streams) (sink_of after.streams)) answer
-    (has_tree tree before.files after.files s.0 s.1 s.2 s.3 n.file answer)
+    (no_tree tree before.files after.files s.0 s.1 s.2 s.3 n.file answer)
     (λ lists stands. text_done (line_of lists) ⊥ (sink_of before.streams) (sink_of after.streams) n.sink answer) a.1
 complete ShowAll before after S K answer a s n =
     after_done Collides (S × K) (λ (none : Unit {0}). AreDistinct) (λ none. SessionAnswers Any lines_course before.streams after.streams K) answer (no_collision s.0 answer)
