@@ -1,0 +1,7 @@
+mod AnswerKinds
+mod Telling
+pub mod Stretches
+pub mod Whole
+mod Recorded
+mod Steps
+mod Putting
